@@ -1,0 +1,4 @@
+pub mod Fault
+pub mod Link
+pub mod Links
+pub mod Topology

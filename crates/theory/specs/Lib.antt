@@ -1,0 +1,4 @@
+pub mod Network
+pub mod Distance
+pub mod NextHop
+pub mod Laws
