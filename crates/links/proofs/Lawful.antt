@@ -3,10 +3,11 @@ use mathlib.Core.Path.{_≡_, refl, ap₂}
 use mathlib.Core.Bool.{true, false, cond, _&&_}
 use mathlib.Core.List.{List, [], _∷_}
 use mathlib.Core.Logic.{inl, inr}
-use Prim.Native.Nat.{ℕ, _<_, _≤_}
+use Prim.Native.Nat.{ℕ, _+_, _*_, _<_, _≤_}
 use native.Mathlib.Omega.{arith}
-use lib.Dec.{ltb, leb}
-use Rattle.std.proofs.shelf.Tests.{ltb-true, leb-true, and-parts, cond-true, cond-false, cond-both}
+use lib.Dec.{eqb, ltb, leb}
+use lib.ListN.{length}
+use Rattle.std.proofs.shelf.Tests.{ltb-true, leb-true, eqb-true, and-parts, or-cases, cond-true, cond-false, cond-both}
 use Rattle.links.specs.declared.link.Link.{Link}
 use Rattle.links.specs.Link.{endsOf}
 use Rattle.links.specs.Links.{precedes, follows, start, risingFrom, rising, costIn, networkOf}
@@ -35,9 +36,24 @@ follows-parts n p l t =
       after = i .1;
     }
 
-pub rising-parts : (n : ℕ) (p l : Link) (ls : List Link) → risingFrom n p (l ∷ ls) ≡ true → Follows n p l × (risingFrom n l ls ≡ true)
+pub rising-split : (n : ℕ) (p l : Link) (ls : List Link) → risingFrom n p (l ∷ ls) ≡ true → (follows n p l ≡ true) × (risingFrom n l ls ≡ true)
 unfolding risingFrom
-rising-parts n p l ls t = let h = and-parts (follows n p l) (risingFrom n l ls) t in (follows-parts n p l (h .0), h .1)
+rising-split n p l ls t = and-parts (follows n p l) (risingFrom n l ls) t
+
+pub rising-parts : (n : ℕ) (p l : Link) (ls : List Link) → risingFrom n p (l ∷ ls) ≡ true → Follows n p l × (risingFrom n l ls ≡ true)
+rising-parts n p l ls t = let h = rising-split n p l ls t in (follows-parts n p l (h .0), h .1)
+
+-- there are fewer links than pairs of nodes
+pub rising-few : (n : ℕ) (p : Link) (ls : List Link) → n ≤ 64 → p .b .0 < 64 → p .a .0 * 64 + p .b .0 < 4096 → risingFrom n p ls ≡ true → p .a .0 * 64 + p .b .0 + length ls < 4096
+rising-few n p [] h k j t = omega arith
+rising-few n p (l ∷ ls) h k j t =
+    let s = rising-parts n p l ls t in
+    let f = s .0 in
+    let i = rising-few n l ls h (omega (arith, f .within)) (omega (arith, f .within, f .order)) (s .1) in
+    elim (or-cases (ltb (p .a .0) (l .a .0)) (eqb (p .a .0) (l .a .0) && ltb (p .b .0) (l .b .0)) (f .after)) [
+      | inl q ↦ omega (arith, ltb-true (p .a .0) (l .a .0) q)
+      | inr q ↦ let e = and-parts (eqb (p .a .0) (l .a .0)) (ltb (p .b .0) (l .b .0)) q in omega (arith, eqb-true (p .a .0) (l .a .0) (e .0), ltb-true (p .b .0) (l .b .0) (e .1))
+    ]
 
 -- the cost is that of the first link that joins the two
 pub cost-here : (l : Link) (ls : List Link) (x y : ℕ) → joins (endsOf l) x y ≡ true → costIn (l ∷ ls) x y ≡ l .cost

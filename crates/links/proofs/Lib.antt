@@ -1,1 +1,4 @@
 pub mod Lawful
+pub mod Listed
+pub mod Pieces
+pub mod RoundTrip

@@ -1,10 +1,12 @@
 -- Lists of links: which are lawful, and the network that they make. Assumes nothing.
+use mathlib.Core.Path.{_≡_}
 use mathlib.Core.Bool.{Bool, true, cond, _&&_, _||_}
 use mathlib.Core.List.{List, [], _∷_}
-use Prim.Native.Nat.{ℕ}
+use Prim.Native.Nat.{ℕ, _<_}
 use lib.Dec.{eqb, ltb, leb}
-use Rattle.theory.specs.Network.{Network, joins}
+use lib.ListN.{length, getD}
 use Rattle.links.specs.Link.{endsOf}
+use Rattle.theory.specs.Network.{joins, Network}
 use Rattle.links.specs.declared.link.Link.{Link}
 
 -- p comes before l: by the lower node, then by the higher one
@@ -35,3 +37,7 @@ costIn (l ∷ ls) x y = cond (joins (endsOf l) x y) (l .cost) (costIn ls x y)
 -- the network of n nodes and these links
 abbrev pub networkOf : ℕ → List Link → Network
 networkOf n ls = record { n = n; cost = costIn ls }
+
+-- each link of the list is a link of the network, at its cost: none hides another
+abbrev pub Listed : List Link → Type 0
+Listed ls = (i : ℕ) → i < length ls → costIn ls (getD ls i start .a .0) (getD ls i start .b .0) ≡ getD ls i start .cost

@@ -3,3 +3,4 @@ pub mod fault;
 pub mod link;
 pub mod node;
 pub mod topology;
+pub mod wire;

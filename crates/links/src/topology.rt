@@ -5,6 +5,7 @@ ghost use Rattle.std.specs.Of.Vec.{vec-items};
 ghost use Rattle.links.specs.Links.{rising};
 use crate::link::Link;
 
+pub mod bytes;
 pub mod parts;
 
 // A lawful network: 1 to 64 nodes, and its links in rising order.

@@ -17,7 +17,6 @@ distance-least z g d a ws w =
     let p = dist-some z g d a ws w in
     (p .0, distance-dist z g d a (p .0) (p .1), p .1 .least ws w)
 
-
 pub distance-none : (z : Network) → Lawful z → (d a : ℕ) → ((ws : List ℕ) → IsPath z d a ws → ⊥) → distance z d a ≡ None
 distance-none z g d a h = go (distance z d a) refl
   where

@@ -3,70 +3,56 @@ ghost use Rattle.theory.specs.Laws.{Least, Symmetric, Triangle, ZeroAtSelf, Fa
 
 pub fn least_holds()
     ensures { λ _. ⌜ Least ⌝ }
-{
-}
+{}
 
 pub fn symmetric_holds()
     ensures { λ _. ⌜ Symmetric ⌝ }
-{
-}
+{}
 
 pub fn triangle_holds()
     ensures { λ _. ⌜ Triangle ⌝ }
-{
-}
+{}
 
 pub fn zero_at_self_holds()
     ensures { λ _. ⌜ ZeroAtSelf ⌝ }
-{
-}
+{}
 
 pub fn falls_holds()
     ensures { λ _. ⌜ Falls ⌝ }
-{
-}
+{}
 
 pub fn lowest_holds()
     ensures { λ _. ⌜ Lowest ⌝ }
-{
-}
+{}
 
 pub fn no_hop_holds()
     ensures { λ _. ⌜ NoHop ⌝ }
-{
-}
+{}
 
 pub fn path_steps_holds()
     ensures { λ _. ⌜ PathSteps ⌝ }
-{
-}
+{}
 
 pub fn uses_steps_holds()
     ensures { λ _. ⌜ UsesSteps ⌝ }
-{
-}
+{}
 
 pub fn leads_holds()
     ensures { λ _. ⌜ Leads ⌝ }
-{
-}
+{}
 
 pub fn no_node_twice_holds()
     ensures { λ _. ⌜ NoNodeTwice ⌝ }
-{
-}
+{}
 
 pub fn few_hops_holds()
     ensures { λ _. ⌜ FewHops ⌝ }
-{
-}
+{}
 
 pub fn bounded_holds()
     ensures { λ _. ⌜ Bounded ⌝ }
-{
-}
+{}
 
 pub fn piece_holds()
     ensures { λ _. ⌜ Piece ⌝ }
-{
-}
+{}

@@ -1,0 +1,10 @@
+use mathlib.Core.Path.{_≡_}
+use mathlib.Core.List.{_++_}
+use lib.ListN.{take}
+use Rattle.std.specs.Joined.{joined}
+use Rattle.std.specs.Of.Vec.{vec-items}
+use Rattle.links.specs.Wire.{linkBytes}
+use Rattle.links.proofs.wire.write_links.Given as given
+
+abbrev pub Inv-loop-link : given.InvT-loop-link
+Inv-loop-link l = vec-items (l .out) ≡ (vec-items (l .entry .out) ++ joined linkBytes (take (l .link-index) (l .links)))
