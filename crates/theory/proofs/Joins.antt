@@ -1,5 +1,5 @@
 -- A link is the same from both ends. Assumes nothing.
-use mathlib.Core.Path.{_≡_, refl, ap₂, _∙_}
+use mathlib.Core.Path.{_≡_, refl, sym, ap₂, _∙_}
 use mathlib.Core.Bool.{Bool, true, false, _&&_, _||_}
 use mathlib.Core.Logic.{_⊎_, inl, inr}
 use Prim.Native.Nat.{ℕ}
@@ -31,3 +31,10 @@ joins-ends r x y t =
       | inl h ↦ let k = and-parts (eqb x (r .a)) (eqb y (r .b)) h in inl (eqb-true x (r .a) (k .0), eqb-true y (r .b) (k .1))
       | inr h ↦ let k = and-parts (eqb x (r .b)) (eqb y (r .a)) h in inr (eqb-true x (r .b) (k .0), eqb-true y (r .a) (k .1))
     ]
+
+-- two that it joins are the same two, in either order
+pub same-link : (r : LinkId) (s f x y : ℕ) → joins r s f ≡ true → joins r x y ≡ true → ((x ≡ s) × (y ≡ f)) ⊎ ((x ≡ f) × (y ≡ s))
+same-link r s f x y p q = elim (joins-ends r s f p) [
+  | inl h ↦ elim (joins-ends r x y q) [ inl k ↦ inl (k .0 ∙ sym (h .0), k .1 ∙ sym (h .1)) | inr k ↦ inr (k .0 ∙ sym (h .1), k .1 ∙ sym (h .0)) ]
+  | inr h ↦ elim (joins-ends r x y q) [ inl k ↦ inr (k .0 ∙ sym (h .1), k .1 ∙ sym (h .0)) | inr k ↦ inl (k .0 ∙ sym (h .0), k .1 ∙ sym (h .1)) ]
+]

@@ -5,4 +5,7 @@ pub mod DistanceLaws
 pub mod NextHops
 pub mod HopPaths
 pub mod Pieces
+pub mod Without
+pub mod Using
+pub mod Repairs
 pub mod Stated

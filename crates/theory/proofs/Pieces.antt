@@ -68,7 +68,7 @@ on-step z g d a e x p o =
       on = record { before = z .cost a e + o .before; after = o .after; toIt = k .here ∙ ap (λ v. Some (z .cost a e + v)) b; fromIt = o .fromIt; whole = n .here ∙ ap Some (omega arith) };
     }
 
-on-itself : (z : Network) → Lawful z → (d x c : ℕ) → distance z d x ≡ Some c → On z d x x
+pub on-itself : (z : Network) → Lawful z → (d x c : ℕ) → distance z d x ≡ Some c → On z d x x
 on-itself z g d x c p = record { before = 0; after = c; toIt = distance-self z g x; fromIt = p; whole = p ∙ ap Some (omega arith) }
 
 -- a path by next hops to d cut at x: up to x it is the path to x, and from there the path to d

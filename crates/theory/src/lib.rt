@@ -1,4 +1,5 @@
 // The theorems that the other crates rest on: the contract of each function is one of them.
+ghost use Rattle.theory.specs.RepairLaws.{Untouched, NotNearer, Either, OneEnd, LastClear, Repaired, NoRepair, SamePath};
 ghost use Rattle.theory.specs.Laws.{Least, Symmetric, Triangle, ZeroAtSelf, Falls, Lowest, NoHop, PathSteps, UsesSteps, Leads, NoNodeTwice, FewHops, Bounded, Piece};
 
 pub fn least_holds()
@@ -55,4 +56,36 @@ pub fn bounded_holds()
 
 pub fn piece_holds()
     ensures { λ _. ⌜ Piece ⌝ }
+{}
+
+pub fn untouched_holds()
+    ensures { λ _. ⌜ Untouched ⌝ }
+{}
+
+pub fn not_nearer_holds()
+    ensures { λ _. ⌜ NotNearer ⌝ }
+{}
+
+pub fn either_holds()
+    ensures { λ _. ⌜ Either ⌝ }
+{}
+
+pub fn one_end_holds()
+    ensures { λ _. ⌜ OneEnd ⌝ }
+{}
+
+pub fn last_clear_holds()
+    ensures { λ _. ⌜ LastClear ⌝ }
+{}
+
+pub fn repaired_holds()
+    ensures { λ _. ⌜ Repaired ⌝ }
+{}
+
+pub fn no_repair_holds()
+    ensures { λ _. ⌜ NoRepair ⌝ }
+{}
+
+pub fn same_path_holds()
+    ensures { λ _. ⌜ SamePath ⌝ }
 {}

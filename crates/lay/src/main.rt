@@ -1,0 +1,143 @@
+// Reads a list of links and prints the distances and the next-hop tables of the network.
+use links::fault::FaultDisplay;
+use links::node::NodeId;
+use links::topology::Topology;
+use links::wire::ReadError;
+use routes::routes::Routes;
+use std::alloc::Global;
+use std::env;
+use std::error::AnyError;
+use std::fs;
+use std::io::Read;
+use std::io::Write;
+
+// What is asked for on the command line.
+#[derive(Drop)]
+enum Request {
+    Help,
+    Lay(Option<String>),
+}
+
+fn request(rt: &LibcRuntime) -> Result<Request, AnyError> {
+    let mut file = None;
+    for word in env::args(rt)?.skip(1) {
+        if word.as_str() == "--help" {
+            return Ok(Request::Help);
+        }
+        if word.as_str().starts_with('-') || file.is_some() {
+            return Err("usage: lay [FILE], or lay --help".into());
+        }
+        file = Some(word);
+    }
+    Ok(Request::Lay(file))
+}
+
+fn print_help(rt: &LibcRuntime) -> Result<(), AnyError> {
+    println!(rt, "usage: lay [FILE]")?;
+    println!(rt, "")?;
+    println!(
+        rt,
+        "Reads a list of links in bytes (from standard input where no FILE is named) and prints"
+    )?;
+    println!(rt, "  places N     the number of nodes")?;
+    println!(
+        rt,
+        "  distances    a row for each node, a column for each destination; - where there is no path"
+    )?;
+    println!(
+        rt,
+        "  tables       the same with next hops; - at the destination itself and where there is no path"
+    )?;
+    println!(
+        rt,
+        "A refused list is one line 'fault N: ..' on standard error, and status 1."
+    )?;
+    Ok(())
+}
+
+// The bytes of the file, or of standard input where none is named.
+fn input(rt: &LibcRuntime, file: Option<String>) -> Result<Vec<u8>, AnyError> {
+    match file {
+        Some(path) => Ok(fs::read(rt, path.as_str())?),
+        None => {
+            let mut bytes = Vec::new(rt.alloc());
+            rt.stdin().read_to_end(&mut bytes)?;
+            Ok(bytes)
+        }
+    }
+}
+
+// One line that says which rule is broken, where, and how.
+fn refusal(heap: Global, e: ReadError) -> Result<AnyError, AnyError> {
+    let fault = e.fault;
+    let at = e.at;
+    match fault.number() {
+        Some(n) => Ok(format!(heap, "fault {n}: at byte {at}: {fault}")?.into()),
+        None => Ok(format!(heap, "{fault}")?.into()),
+    }
+}
+
+fn distance_row(out: &mut String, routes: &Routes, a: u8, nodes: u8) -> Result<(), AnyError> {
+    write!(out, "{a}:")?;
+    for d in 0..nodes {
+        match routes.distance(NodeId(d), NodeId(a)) {
+            Some(c) => write!(out, " {c}")?,
+            None => out.push_str(" -")?,
+        }
+    }
+    out.push_str("\n")?;
+    Ok(())
+}
+
+fn hop_row(out: &mut String, routes: &Routes, a: u8, nodes: u8) -> Result<(), AnyError> {
+    write!(out, "{a}:")?;
+    for d in 0..nodes {
+        match routes.next_hop(NodeId(d), NodeId(a)) {
+            Some(NodeId(e)) => write!(out, " {e}")?,
+            None => out.push_str(" -")?,
+        }
+    }
+    out.push_str("\n")?;
+    Ok(())
+}
+
+fn plan(heap: Global, topology: &Topology) -> Result<String, AnyError> {
+    let nodes = topology.nodes();
+    let routes = Routes::of(topology);
+    let mut out = String::new(heap);
+    write!(out, "places {nodes}\ndistances\n")?;
+    for a in 0..nodes {
+        distance_row(&mut out, &routes, a, nodes)?;
+    }
+    out.push_str("tables\n")?;
+    for a in 0..nodes {
+        hop_row(&mut out, &routes, a, nodes)?;
+    }
+    Ok(out)
+}
+
+fn run(rt: &LibcRuntime) -> Result<(), AnyError> {
+    let file = match request(rt)? {
+        Request::Help => return print_help(rt),
+        Request::Lay(file) => file,
+    };
+    let bytes = input(rt, file)?;
+    match Topology::read(rt.alloc(), bytes.as_slice()) {
+        Ok(topology) => {
+            let text = plan(rt.alloc(), &topology)?;
+            rt.stdout().write_all(text.as_bytes())?;
+            Ok(())
+        }
+        Err(e) => Err(refusal(rt.alloc(), e)?),
+    }
+}
+
+fn main(rt: LibcRuntime) -> Result<(), AnyError> {
+    match run(&rt) {
+        Ok(()) => Ok(()),
+        Err(e) => {
+            eprintln!(rt, "{e}")?;
+            Err(e)
+        }
+    }
+}
