@@ -9,3 +9,5 @@ pub mod Without
 pub mod Using
 pub mod Repairs
 pub mod Stated
+pub mod Reached
+pub mod Cases

@@ -20,7 +20,7 @@ use Rattle.theory.proofs.Paths.{some-inj, none-some, over-at, over-from}
 abbrev pub fits : Network → ℕ → ℕ → ℕ → Bool
 fits z d a e = isSome (distance z d a) && same (over (z .cost a e) (distance z d e)) (distance z d a)
 
-same-eq : (f g : Option ℕ) → same f g ≡ true → f ≡ g
+pub same-eq : (f g : Option ℕ) → same f g ≡ true → f ≡ g
 same-eq None None t = refl
 same-eq None (Some e) t = absurd (both-ways false refl t)
 same-eq (Some a) None t = absurd (both-ways false refl t)

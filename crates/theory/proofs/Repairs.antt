@@ -8,7 +8,7 @@ use native.Mathlib.Omega.{arith}
 use Rattle.std.specs.declared.option.Option.{Option}
 use Rattle.std.specs.declared.option.Option.the-variants.{Some, None}
 use Rattle.std.proofs.shelf.Tests.{both-ways, not-true, and-parts, cases-bool, and-from, or-left, not-from-false, cond-true, cond-false}
-use Rattle.theory.specs.Repair.{pathWithout, clear, later, lastClear, repair, Repair, IsRepair}
+use Rattle.theory.specs.Repair.{via, pathWithout, clear, later, lastClear, repair, Repair, IsRepair}
 use Rattle.theory.specs.NextHop.{nextHop, path, uses}
 use Rattle.theory.specs.Distance.{IsPath, distance}
 use Rattle.theory.specs.Network.{joins, without, Network, Lawful, LinkId}
@@ -20,7 +20,7 @@ use Rattle.theory.proofs.Using.{same-some, either}
 use Rattle.theory.proofs.HopPaths.{path-stop, path-to, uses-stop, uses-to, leads}
 use Rattle.theory.proofs.Paths.{nil-cons}
 
-some-none : (x : Repair) → Some x ≡ None → ⊥
+pub some-none : (x : Repair) → Some x ≡ None → ⊥
 some-none x p = let z : _≡_ {A = ℕ} 0 1 = cc in omega arith
 
 some-repair : (x y : Repair) → Some x ≡ Some y → x ≡ y
@@ -29,7 +29,7 @@ some-repair x y p = cc
 clear-parts : (z : Network) (r : LinkId) (s d p q : ℕ) → clear z r s d p q ≡ true → (uses z r p s ≡ false) × (uses z r d q ≡ false)
 clear-parts z r s d p q t = let h = and-parts (not (uses z r p s)) (not (uses z r d q)) t in (not-true (uses z r p s) (h .0), not-true (uses z r d q) (h .1))
 
-clear-from : (z : Network) (r : LinkId) (s d p q : ℕ) → uses z r p s ≡ false → uses z r d q ≡ false → clear z r s d p q ≡ true
+pub clear-from : (z : Network) (r : LinkId) (s d p q : ℕ) → uses z r p s ≡ false → uses z r d q ≡ false → clear z r s d p q ≡ true
 clear-from z r s d p q t u = and-from (not (uses z r p s)) (not (uses z r d q)) (not-from-false (uses z r p s) t) (not-from-false (uses z r d q) u)
 
 -- a link along the nodes from p on, as lastClear finds it
@@ -47,28 +47,28 @@ none-clear z r s d w [] e u v (x ∷ []) vs a t = nil-cons u (v ∷ vs) (cc)
 none-clear z r s d w [] e u v (x ∷ (y ∷ us)) vs a t = nil-cons y (us ++ (u ∷ (v ∷ vs))) (cc)
 none-clear z r s d w (q ∷ qs) e u v us vs a t = go (lastClear z r s d q qs) refl e us a (λ h ns n. none-clear z r s d q qs h u v ns vs n t)
   where
-    go : (o : Option Repair) → lastClear z r s d q qs ≡ o → later o (cond (clear z r s d w q) (Some (record { p = w; q = q })) None) ≡ None → (us : List ℕ) → (w ∷ (q ∷ qs)) ≡ (us ++ (u ∷ (v ∷ vs))) → (lastClear z r s d q qs ≡ None → (ns : List ℕ) → (q ∷ qs) ≡ (ns ++ (u ∷ (v ∷ vs))) → ⊥) → ⊥
+    go : (o : Option Repair) → lastClear z r s d q qs ≡ o → later o (cond (clear z r s d w q) (via w q) None) ≡ None → (us : List ℕ) → (w ∷ (q ∷ qs)) ≡ (us ++ (u ∷ (v ∷ vs))) → (lastClear z r s d q qs ≡ None → (ns : List ℕ) → (q ∷ qs) ≡ (ns ++ (u ∷ (v ∷ vs))) → ⊥) → ⊥
     go (Some x) h k us a more = some-none x k
     go None h k [] a more =
         let i : w ≡ u = cc in
         let j : q ≡ v = cc in
         let c : clear z r s d w q ≡ true = subst (λ x. clear z r s d x q ≡ true) (sym i) (subst (λ x. clear z r s d u x ≡ true) (sym j) t) in
-        some-none (record { p = w; q = q }) (sym (cond-true (clear z r s d w q) (Some (record { p = w; q = q })) None c) ∙ k)
+        some-none (record { p = w; q = q }) (sym (cond-true (clear z r s d w q) (via w q) None c) ∙ k)
     go None h k (x ∷ us) a more = more h us (cc)
 
-last-lies : (z : Network) (r : LinkId) (s d w : ℕ) (ws : List ℕ) (p q : ℕ) → lastClear z r s d w ws ≡ Some (record { p = p; q = q }) → Lies z r s d w ws p q
+last-lies : (z : Network) (r : LinkId) (s d w : ℕ) (ws : List ℕ) (p q : ℕ) → lastClear z r s d w ws ≡ via p q → Lies z r s d w ws p q
 unfolding lastClear
 last-lies z r s d w [] p q e = absurd (some-none (record { p = p; q = q }) (sym e))
 last-lies z r s d w (x ∷ xs) p q e = go (lastClear z r s d x xs) refl e (λ h. last-lies z r s d x xs p q h)
   where
-    go : (o : Option Repair) → lastClear z r s d x xs ≡ o → later o (cond (clear z r s d w x) (Some (record { p = w; q = x })) None) ≡ Some (record { p = p; q = q }) → (lastClear z r s d x xs ≡ Some (record { p = p; q = q }) → Lies z r s d x xs p q) → Lies z r s d w (x ∷ xs) p q
+    go : (o : Option Repair) → lastClear z r s d x xs ≡ o → later o (cond (clear z r s d w x) (via w x) None) ≡ via p q → (lastClear z r s d x xs ≡ via p q → Lies z r s d x xs p q) → Lies z r s d w (x ∷ xs) p q
     go (Some y) h k i =
         let l = i (h ∙ k) in
         record { before = w ∷ l .before; after = l .after; along = ap (λ ns. w ∷ ns) (l .along); bothClear = l .bothClear; last = l .last }
     go None h k i = elim (cases-bool (clear z r s d w x)) [
-      | inr f ↦ absurd (some-none (record { p = p; q = q }) (sym (sym (cond-false (clear z r s d w x) (Some (record { p = w; q = x })) None f) ∙ k)))
+      | inr f ↦ absurd (some-none (record { p = p; q = q }) (sym (sym (cond-false (clear z r s d w x) (via w x) None f) ∙ k)))
       | inl t ↦
-          let m = some-repair (record { p = w; q = x }) (record { p = p; q = q }) (sym (cond-true (clear z r s d w x) (Some (record { p = w; q = x })) None t) ∙ k) in
+          let m = some-repair (record { p = w; q = x }) (record { p = p; q = q }) (sym (cond-true (clear z r s d w x) (via w x) None t) ∙ k) in
           let a : w ≡ p = ap (λ (y : Repair). y .p) m in
           let b : x ≡ q = ap (λ (y : Repair). y .q) m in
           record {
@@ -97,17 +97,17 @@ same-cut P p q x y [] vs (b ∷ bs) cs e m n f g = absurd (f x y bs cs (cc) n)
 same-cut P p q x y (u ∷ us) vs [] cs e m n f g = absurd (g p q us vs (cc) m)
 same-cut P p q x y (u ∷ us) vs (b ∷ bs) cs e m n f g = same-cut P p q x y us vs bs cs (cc) m n f g
 
-pub is-repair : (z : Network) (r : LinkId) (s d p q : ℕ) → repair z r s d ≡ Some (record { p = p; q = q }) → IsRepair z r s d p q
+pub is-repair : (z : Network) (r : LinkId) (s d p q : ℕ) → repair z r s d ≡ via p q → IsRepair z r s d p q
 is-repair z r s d p q e =
     let l = last-lies z r s d s (pathWithout z r d s) p q e in
     record { before = l .before; after = l .after; along = l .along; bothClear = l .bothClear; last = l .last }
 
-repair-is : (z : Network) (r : LinkId) (s d p q : ℕ) → IsRepair z r s d p q → repair z r s d ≡ Some (record { p = p; q = q })
+repair-is : (z : Network) (r : LinkId) (s d p q : ℕ) → IsRepair z r s d p q → repair z r s d ≡ via p q
 repair-is z r s d p q i =
     let f = clear-found z r s d s (pathWithout z r d s) p q (i .before) (i .after) (i .along) (i .bothClear) in
     let l = is-repair z r s d (f .0 .p) (f .0 .q) (f .1) in
     let c = same-cut (λ u v. clear z r s d u v ≡ true) (f .0 .p) (f .0 .q) p q (l .before) (l .after) (i .before) (i .after) (sym (l .along) ∙ i .along) (l .bothClear) (i .bothClear) (l .last) (i .last) in
-    f .1 ∙ ap₂ (λ u v. Some (record { p = u; q = v })) (c .0) (c .1)
+    f .1 ∙ ap₂ (λ u v. via u v) (c .0) (c .1)
 
 pub last-clear : LastClear
 last-clear z r s d p q g = (is-repair z r s d p q, repair-is z r s d p q)
@@ -220,10 +220,10 @@ found-along z g r s f d e h w (v ∷ ws) i t k = elim (cases-bool (uses z r v s)
 ]
 
 -- s itself is reached without the link, and d, to which s sends over it, is not
-uses-self : (z : Network) (r : LinkId) (s : ℕ) → uses z r s s ≡ false
+pub uses-self : (z : Network) (r : LinkId) (s : ℕ) → uses z r s s ≡ false
 uses-self z r s = uses-stop z r s s (next-hop-here z s)
 
-uses-over : (z : Network) → Lawful z → (r : LinkId) (s f d : ℕ) → joins r s f ≡ true → nextHop z d s ≡ Some f → uses z r d s ≡ true
+pub uses-over : (z : Network) → Lawful z → (r : LinkId) (s f d : ℕ) → joins r s f ≡ true → nextHop z d s ≡ Some f → uses z r d s ≡ true
 uses-over z g r s f d e h = uses-to z g r d s f h ∙ or-left (joins r s f) (uses z r d f) e
 
 pub repair-found : (z : Network) → Lawful z → (r : LinkId) (s f d c : ℕ) → joins r s f ≡ true → nextHop z d s ≡ Some f → distance (without r z) d s ≡ Some c → (x : Repair) × (repair z r s d ≡ Some x)

@@ -4,3 +4,4 @@ pub mod NextHop
 pub mod Laws
 pub mod Repair
 pub mod RepairLaws
+pub mod Worked

@@ -6,12 +6,15 @@ use Prim.Native.Nat.{ℕ}
 use Rattle.std.specs.declared.option.Option.{Option}
 use Rattle.std.specs.declared.option.Option.the-variants.{Some, None}
 use Rattle.theory.specs.Network.{Network, LinkId, without}
-use Rattle.theory.specs.NextHop.{path, uses}
+use Rattle.theory.specs.NextHop.{same, nextHop, path, uses}
 
 -- first to p by next hops, then over the link from p to q, then on to d by next hops
 pub record Repair : Type 0 where
   pub p : ℕ
   pub q : ℕ
+
+abbrev pub via : ℕ → ℕ → Option Repair
+via p q = Some (record { p = p; q = q })
 
 -- the post-convergence path: by the next hops of the network without the link
 abbrev pub pathWithout : Network → LinkId → ℕ → ℕ → List ℕ
@@ -37,7 +40,16 @@ later (Some y) x = Some y
 -- the last link along the nodes from p on with both parts clear of r
 unfoldable pub lastClear : Network → LinkId → ℕ → ℕ → ℕ → List ℕ → Option Repair
 lastClear z r s d p [] = None
-lastClear z r s d p (q ∷ qs) = later (lastClear z r s d q qs) (cond (clear z r s d p q) (Some (record { p = p; q = q })) None)
+lastClear z r s d p (q ∷ qs) = later (lastClear z r s d q qs) (cond (clear z r s d p q) (via p q) None)
 
 abbrev pub repair : Network → LinkId → ℕ → ℕ → Option Repair
 repair z r s d = lastClear z r s d s (pathWithout z r d s)
+
+-- does s send packets for x to f?
+abbrev pub sends : Network → ℕ → ℕ → ℕ → Bool
+sends z s f x = same (nextHop z x s) (Some f)
+
+-- the last link along the nodes from p on whose first node s reaches by another neighbour than f
+unfoldable pub lastReached : Network → ℕ → ℕ → ℕ → List ℕ → Option Repair
+lastReached z s f p [] = None
+lastReached z s f p (q ∷ qs) = later (lastReached z s f q qs) (cond (sends z s f p) None (via p q))

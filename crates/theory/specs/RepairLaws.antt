@@ -8,7 +8,7 @@ use Rattle.std.specs.declared.option.Option.the-variants.{Some, None}
 use Rattle.theory.specs.Network.{Network, Lawful, LinkId, joins, without}
 use Rattle.theory.specs.Distance.{distance}
 use Rattle.theory.specs.NextHop.{nextHop, path, uses}
-use Rattle.theory.specs.Repair.{Repair, IsRepair, repair, pathWithout}
+use Rattle.theory.specs.Repair.{Repair, via, IsRepair, repair, pathWithout, lastReached}
 
 -- a failure brings nothing nearer
 abbrev pub NotNearer : Type 0
@@ -38,7 +38,7 @@ OneEnd = (z : Network) → Lawful z → (s f d : ℕ) → nextHop z d s ≡ Some
 -- the function in the words of the relation
 abbrev pub LastClear : Type 0
 LastClear =
-    (z : Network) (r : LinkId) (s d p q : ℕ) → Lawful z → (repair z r s d ≡ Some (record { p = p; q = q })) ↔ IsRepair z r s d p q
+    (z : Network) (r : LinkId) (s d p q : ℕ) → Lawful z → (repair z r s d ≡ via p q) ↔ IsRepair z r s d p q
 
 -- a good repair at s for d: both distances exist, the link p-q is left, the cost is c in all, and no part uses r
 pub record Serves (z : Network) (r : LinkId) (s d c : ℕ) (x : Repair) : Type 0 where
@@ -69,3 +69,9 @@ abbrev pub SamePath : Type 0
 SamePath =
     (z : Network) → Lawful z → (r : LinkId) (s d : ℕ) (x : Repair) → repair z r s d ≡ Some x →
     (path z (x .p) s ++ (x .q ∷ path z d (x .q))) ≡ pathWithout z r d s
+
+-- where s sends over the link to d, it is enough to look which nodes s reaches by another neighbour
+abbrev pub Reached : Type 0
+Reached =
+    (z : Network) → Lawful z → (r : LinkId) (s f d : ℕ) → joins r s f ≡ true → nextHop z d s ≡ Some f →
+    lastReached z s f s (pathWithout z r d s) ≡ repair z r s d

@@ -1,5 +1,6 @@
 // The theorems that the other crates rest on: the contract of each function is one of them.
-ghost use Rattle.theory.specs.RepairLaws.{Untouched, NotNearer, Either, OneEnd, LastClear, Repaired, NoRepair, SamePath};
+ghost use Rattle.theory.specs.RepairLaws.{Untouched, NotNearer, Either, OneEnd, LastClear, Repaired, NoRepair, SamePath, Reached};
+ghost use Rattle.theory.specs.Worked.{Worked};
 ghost use Rattle.theory.specs.Laws.{Least, Symmetric, Triangle, ZeroAtSelf, Falls, Lowest, NoHop, PathSteps, UsesSteps, Leads, NoNodeTwice, FewHops, Bounded, Piece};
 
 pub fn least_holds()
@@ -88,4 +89,12 @@ pub fn no_repair_holds()
 
 pub fn same_path_holds()
     ensures { λ _. ⌜ SamePath ⌝ }
+{}
+
+pub fn reached_holds()
+    ensures { λ _. ⌜ Reached ⌝ }
+{}
+
+pub fn worked_holds()
+    ensures { λ _. ⌜ Worked ⌝ }
 {}
