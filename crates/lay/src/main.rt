@@ -18,7 +18,7 @@ enum Request {
     Lay(Option<String>),
 }
 
-fn request(rt: &LibcRuntime) -> Result<Request, AnyError> {
+fn asked(rt: &LibcRuntime) -> Result<Request, AnyError> {
     let mut file = None;
     for word in env::args(rt)?.skip(1) {
         if word.as_str() == "--help" {
@@ -117,7 +117,7 @@ fn plan(heap: Global, topology: &Topology) -> Result<String, AnyError> {
 }
 
 fn run(rt: &LibcRuntime) -> Result<(), AnyError> {
-    let file = match request(rt)? {
+    let file = match asked(rt)? {
         Request::Help => return print_help(rt),
         Request::Lay(file) => file,
     };

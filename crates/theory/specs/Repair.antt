@@ -53,3 +53,17 @@ sends z s f x = same (nextHop z x s) (Some f)
 unfoldable pub lastReached : Network → ℕ → ℕ → ℕ → List ℕ → Option Repair
 lastReached z s f p [] = None
 lastReached z s f p (q ∷ qs) = later (lastReached z s f q qs) (cond (sends z s f p) None (via p q))
+
+-- what s has laid up for its link to f and the destination d: nothing where it doesn't send over the link to d; that no
+-- path is left; or the repair
+pub data Laid : Type 0 where
+  Unused : Laid
+  Apart : Laid
+  Via : (p q : ℕ) → Laid
+
+abbrev pub laidBy : Option Repair → Laid
+laidBy None = Apart
+laidBy (Some x) = Via (x .p) (x .q)
+
+abbrev pub laid : Network → ℕ → ℕ → ℕ → Laid
+laid z s f d = cond (sends z s f d) (laidBy (repair z (record { a = s; b = f }) s d)) Unused

@@ -1,0 +1,135 @@
+-- Rows of 64 costs: what they say of each two nodes, and how links are written into them. Assumes nothing.
+use mathlib.Core.Path.{_≡_, sym, ap, _∙_, subst, fun-ext}
+use mathlib.Core.Bool.{true, false, _&&_}
+use mathlib.Core.List.{List, [], _∷_}
+use mathlib.Core.Logic.{inl, inr}
+use Prim.Native.Nat.{ℕ, zero, suc, _+_, _-_, _*_, _<_, _≤_}
+use native.Mathlib.Omega.{arith}
+use lib.Dec.{eqb, ltb}
+use lib.ListN.{length, getD, set, take, drop, replicate, length-set}
+use Rattle.std.proofs.shelf.Tests.{ltb-true, lt-ltb, eq-eqb, cases-lt, and-parts, cases-eq, cases-bool, and-from, or-left, cond-true, cond-false}
+use Rattle.std.proofs.shelf.Lists.{length-drop, getD-replicate, length-take-le, getD-set-same, getD-set-other, getD-take, getD-drop, drop-all, drop-more}
+use Rattle.links.specs.Link.{endsOf}
+use Rattle.links.specs.Links.{start, risingFrom, rising, costIn, networkOf}
+use Rattle.links.proofs.Lawful.{rising-parts, cost-here, cost-there, lawful, limited}
+use Rattle.routes.specs.Matrix.{matrixNetwork}
+use Rattle.routes.specs.Costs.{costAt, networkIn, Row, Written}
+use Rattle.theory.specs.Network.{joins, Lawful, Limited, LinkId}
+use Rattle.theory.proofs.Joins.{joins-symmetric, joins-ends}
+use Rattle.links.specs.declared.link.Link.{Link}
+use Rattle.routes.specs.declared.matrix.CostMatrix.{CostMatrix}
+
+-- m has what f says of each two of n nodes
+abbrev pub Holds : ℕ → (ℕ → ℕ → ℕ) → List ℕ → Type 0
+Holds n f m = (a b : ℕ) → (a < n) × (b < n) → getD m (a * 64 + b) 0 ≡ f a b
+
+-- two cells are one only where row and column are
+cell-inj : (a b x y : ℕ) → b < 64 → y < 64 → x * 64 + y ≡ a * 64 + b → (x ≡ a) × (y ≡ b)
+cell-inj a b x y p q e = (omega arith, omega arith)
+
+-- in the first n rows and columns, and elsewhere
+
+cost-in : (n : ℕ) (m : List ℕ) (a b : ℕ) → a < n → b < n → costAt n m a b ≡ getD m (a * 64 + b) 0
+cost-in n m a b p q = cond-true (ltb a n && ltb b n) (getD m (a * 64 + b) 0) 0 (and-from (ltb a n) (ltb b n) (lt-ltb a n p) (lt-ltb b n q))
+
+cost-within : (n : ℕ) (m : List ℕ) (a b : ℕ) → 0 < costAt n m a b → (a < n) × (b < n)
+cost-within n m a b h = elim (cases-bool (ltb a n && ltb b n)) [
+  | inl t ↦ let p = and-parts (ltb a n) (ltb b n) t in (ltb-true a n (p .0), ltb-true b n (p .1))
+  | inr f ↦ absurd (omega (arith, cond-false (ltb a n && ltb b n) (getD m (a * 64 + b) 0) 0 f))
+]
+
+-- the cells of a lawful network's costs say the same as its links
+
+none-outside : (f : ℕ → ℕ → ℕ) (n a b : ℕ) → (0 < f a b → (a < n) × (b < n)) → ((a < n) × (b < n) → ⊥) → f a b ≡ 0
+none-outside f n a b w h = elim (cases-lt 0 (f a b)) [ inl l ↦ absurd (h (w l)) | inr l ↦ omega arith ]
+
+holds-same : (n : ℕ) (ls : List Link) (m : List ℕ) → Lawful (networkOf n ls) → Holds n (costIn ls) m → (a b : ℕ) → costAt n m a b ≡ costIn ls a b
+holds-same n ls m g h a b = elim (cases-lt a n) [
+  | inl p ↦ elim (cases-lt b n) [
+    | inl q ↦ cost-in n m a b p q ∙ h a b (p, q)
+    | inr q ↦ none-outside (costAt n m) n a b (cost-within n m a b) (λ i. omega (arith, i .1)) ∙ sym (none-outside (costIn ls) n a b (g .within a b) (λ i. omega (arith, i .1)))
+  ]
+  | inr p ↦ none-outside (costAt n m) n a b (cost-within n m a b) (λ i. omega (arith, i .0)) ∙ sym (none-outside (costIn ls) n a b (g .within a b) (λ i. omega (arith, i .0)))
+]
+
+pub holds-written : (n : ℕ) (ls : List Link) (i : ℕ) (m : List ℕ) → n ≤ 64 → rising n ls ≡ true → i ≤ 0 → Holds n (costIn (drop i ls)) m → Written n ls m
+holds-written n ls i m few t z h =
+    let e : i ≡ 0 = omega arith in
+    let g = lawful n ls t in
+    let s = holds-same n ls m g (subst (λ k. Holds n (costIn (drop k ls)) m) e h) in
+    record {
+      network = ap (λ f. record { n = n; cost = f }) (fun-ext (λ a. fun-ext (λ b. s a b)));
+      symmetric = λ a b. s a b ∙ (g .symmetric a b ∙ sym (s b a));
+      loopless = λ a. s a a ∙ g .loopless a;
+      light = λ a b. omega (arith, s a b, limited n ls few t .light a b);
+    }
+
+-- a link of a rising list
+pub rising-at : (n : ℕ) (p : Link) (ls : List Link) (i : ℕ) (d : Link) → risingFrom n p ls ≡ true → i < length ls → (getD ls i d .a .0 < getD ls i d .b .0) × (getD ls i d .b .0 < n)
+rising-at n p [] i d t h = absurd (omega arith)
+rising-at n p (l ∷ ls) zero d t h = let f = rising-parts n p l ls t .0 in (f .order, f .within)
+rising-at n p (l ∷ ls) (suc i) d t h = rising-at n l ls i d (rising-parts n p l ls t .1) (omega arith)
+
+-- writing the links from the last to the first
+
+pub holds-none : (n : ℕ) (ls : List Link) → n ≤ 64 → Holds n (costIn (drop (length ls) ls)) (replicate 4096 0)
+unfolding costIn
+holds-none n ls h a b p = getD-replicate {A = ℕ} 4096 (a * 64 + b) 0 0 (omega (arith, p .0, p .1)) ∙ sym (ap (λ l. costIn l a b) (drop-all (length ls) ls (omega arith)))
+
+joined : (r : LinkId) (x y : ℕ) → (x ≡ r .a) × (y ≡ r .b) → joins r x y ≡ true
+joined r x y e =
+    or-left (eqb x (r .a) && eqb y (r .b)) (eqb x (r .b) && eqb y (r .a)) (and-from (eqb x (r .a)) (eqb y (r .b)) (eq-eqb x (r .a) (e .0)) (eq-eqb y (r .b) (e .1)))
+
+-- both cells of the link l are written
+abbrev put : Link → List ℕ → List ℕ
+put l m = set (set m (l .a .0 * 64 + l .b .0) (l .cost)) (l .b .0 * 64 + l .a .0) (l .cost)
+
+put-holds : (n : ℕ) (l : Link) (ls : List Link) (m : List ℕ) → n ≤ 64 → l .a .0 < n → l .b .0 < n → length m ≡ 4096 → Holds n (costIn ls) m → Holds n (costIn (l ∷ ls)) (put l m)
+put-holds n l ls m few p q len h x y w =
+    let i = l .a .0 * 64 + l .b .0 in
+    let j = l .b .0 * 64 + l .a .0 in
+    let s = set m i (l .cost) in
+    elim (cases-eq (x * 64 + y) j) [
+      | inl e ↦
+          let c = cell-inj (l .b .0) (l .a .0) x y (omega arith) (omega (arith, w .1)) e in
+          ap (λ k. getD (put l m) k 0) e ∙
+          (getD-set-same s j (l .cost) 0 (omega (arith, length-set m i (l .cost))) ∙
+          sym (cost-here l ls x y (joins-symmetric (endsOf l) x y ∙ joined (endsOf l) y x (c .1, c .0))))
+      | inr ne ↦ getD-set-other s j (x * 64 + y) (l .cost) 0 ne ∙ elim (cases-eq (x * 64 + y) i) [
+        | inl e ↦
+            let c = cell-inj (l .a .0) (l .b .0) x y (omega arith) (omega (arith, w .1)) e in
+            ap (λ k. getD s k 0) e ∙ (getD-set-same m i (l .cost) 0 (omega arith) ∙ sym (cost-here l ls x y (joined (endsOf l) x y c)))
+        | inr nf ↦
+            let f : joins (endsOf l) x y ≡ false = elim (cases-bool (joins (endsOf l) x y)) [
+              | inl t ↦ elim (joins-ends (endsOf l) x y t) [ inl c ↦ absurd (omega (arith, c .0, c .1)) | inr c ↦ absurd (omega (arith, c .0, c .1)) ]
+              | inr f ↦ f
+            ] in
+            getD-set-other m i (x * 64 + y) (l .cost) 0 nf ∙ (h x y w ∙ sym (cost-there l ls x y f))
+      ]
+    ]
+
+pub holds-more : (n : ℕ) (ls : List Link) (i : ℕ) (m : List ℕ) → n ≤ 64 → rising n ls ≡ true → 0 < i → i ≤ length ls → length m ≡ 4096 →
+    Holds n (costIn (drop i ls)) m → Holds n (costIn (drop (i - 1) ls)) (put (getD ls (i - 1) start) m)
+holds-more n ls i m few t p q len h =
+    let l = getD ls (i - 1) start in
+    let b = rising-at n start ls (i - 1) start t (omega arith) in
+    let e : i - 1 + 1 ≡ i = omega arith in
+    let d : drop (i - 1) ls ≡ (l ∷ drop i ls) = drop-more ls (i - 1) start (omega arith) ∙ ap (λ k. l ∷ drop k ls) e in
+    subst (λ r. Holds n (costIn r) (put l m)) (sym d) (put-holds n l (drop i ls) m few (omega (arith, b .0, b .1)) (b .1) len h)
+
+-- a matrix is a lawful network
+
+pub matrix-lawful : (m : CostMatrix) → Lawful (matrixNetwork m)
+matrix-lawful m = record { symmetric = m .symmetric; loopless = m .loopless; within = cost-within (m .nodes) (m .costs) }
+
+pub matrix-limited : (m : CostMatrix) → Limited (matrixNetwork m)
+matrix-limited m = record { few = m .few .1; light = m .light }
+
+-- and its rows are parts of it
+pub row-of : (n : ℕ) (m : List ℕ) (u : ℕ) → n ≤ 64 → u < n → length m ≡ 4096 → Row (networkIn n m) u (take (u * 64 + n - u * 64) (drop (u * 64) m))
+row-of n m u few h len =
+    let e : u * 64 + n - u * 64 ≡ n = omega arith in
+    record {
+      size = ap (λ k. length (take k (drop (u * 64) m))) e ∙ length-take-le n (drop (u * 64) m) (omega (arith, length-drop (u * 64) m));
+      each = λ b l. getD-take (u * 64 + n - u * 64) (drop (u * 64) m) b 0 (omega arith) ∙ (getD-drop (u * 64) m b 0 ∙ sym (cost-in n m u b h l));
+    }
