@@ -1,9 +1,8 @@
 // Reads a list of links and prints the distances and the next-hop tables of the network.
 use links::fault::FaultDisplay;
-use links::node::NodeId;
 use links::topology::Topology;
 use links::wire::ReadError;
-use routes::routes::Routes;
+use report::plan;
 use std::alloc::Global;
 use std::env;
 use std::error::AnyError;
@@ -77,43 +76,12 @@ fn refusal(heap: Global, e: ReadError) -> Result<AnyError, AnyError> {
     }
 }
 
-fn distance_row(out: &mut String, routes: &Routes, a: u8, nodes: u8) -> Result<(), AnyError> {
-    write!(out, "{a}:")?;
-    for d in 0..nodes {
-        match routes.distance(NodeId(d), NodeId(a)) {
-            Some(c) => write!(out, " {c}")?,
-            None => out.push_str(" -")?,
-        }
+// The plan, which is worked out whole before anything is printed.
+fn print_plan(rt: &LibcRuntime, topology: &Topology) -> Result<(), AnyError> {
+    match plan(rt.alloc(), topology) {
+        Ok(text) => Ok(rt.stdout().write_all(text.as_slice())?),
+        Err(fault) => Err(format!(rt.alloc(), "{fault}")?.into()),
     }
-    out.push_str("\n")?;
-    Ok(())
-}
-
-fn hop_row(out: &mut String, routes: &Routes, a: u8, nodes: u8) -> Result<(), AnyError> {
-    write!(out, "{a}:")?;
-    for d in 0..nodes {
-        match routes.next_hop(NodeId(d), NodeId(a)) {
-            Some(NodeId(e)) => write!(out, " {e}")?,
-            None => out.push_str(" -")?,
-        }
-    }
-    out.push_str("\n")?;
-    Ok(())
-}
-
-fn plan(heap: Global, topology: &Topology) -> Result<String, AnyError> {
-    let nodes = topology.nodes();
-    let routes = Routes::of(topology);
-    let mut out = String::new(heap);
-    write!(out, "places {nodes}\ndistances\n")?;
-    for a in 0..nodes {
-        distance_row(&mut out, &routes, a, nodes)?;
-    }
-    out.push_str("tables\n")?;
-    for a in 0..nodes {
-        hop_row(&mut out, &routes, a, nodes)?;
-    }
-    Ok(out)
 }
 
 fn run(rt: &LibcRuntime) -> Result<(), AnyError> {
@@ -123,11 +91,7 @@ fn run(rt: &LibcRuntime) -> Result<(), AnyError> {
     };
     let bytes = input(rt, file)?;
     match Topology::read(rt.alloc(), bytes.as_slice()) {
-        Ok(topology) => {
-            let text = plan(rt.alloc(), &topology)?;
-            rt.stdout().write_all(text.as_bytes())?;
-            Ok(())
-        }
+        Ok(topology) => print_plan(rt, &topology),
         Err(e) => Err(refusal(rt.alloc(), e)?),
     }
 }

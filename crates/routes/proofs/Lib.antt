@@ -1,4 +1,5 @@
 pub mod Costs
+pub mod Unsettled
 pub mod Settled
 pub mod Hops
 pub mod Rows

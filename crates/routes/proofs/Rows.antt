@@ -9,13 +9,14 @@ use lib.Dec.{eqb}
 use lib.ListN.{length, getD, take}
 use Rattle.std.specs.declared.option.Option.{Option}
 use Rattle.std.specs.declared.option.Option.the-variants.{Some, None}
-use Rattle.std.proofs.shelf.Tests.{false≢true, eqb-true, eq-eqb, ne-eqb, cases-eq, cond-false}
+use Rattle.std.proofs.shelf.Tests.{eq-eqb, ne-eqb, cases-eq, cond-false}
 use Rattle.std.proofs.shelf.Lists.{getD-append-left, length-take-le, getD-take, getD-append-right}
 use borrow.Rule.Slice.PartMut.{putMid, postOf}
 use Rattle.routes.specs.Distances.{decoded}
 use Rattle.theory.specs.NextHop.{same}
 use Rattle.theory.specs.Distance.{distance}
 use Rattle.theory.specs.Network.{Network, Lawful, Limited}
+use Rattle.theory.proofs.NextHops.{same-eq}
 use Rattle.theory.proofs.HopPaths.{bounded}
 
 -- what a list holds after a part of it was written
@@ -40,12 +41,6 @@ rows-more P n d k xs ys v few l size len old row e a p = elim (cases-eq e d) [
 
 -- the test that two are the same
 
-same-is : (f h : Option ℕ) → same f h ≡ true → f ≡ h
-same-is None None t = refl
-same-is None (Some b) t = absurd (false≢true t)
-same-is (Some a) None t = absurd (false≢true t)
-same-is (Some a) (Some b) t = ap Some (eqb-true a b t)
-
 same-self : (f : Option ℕ) → same f f ≡ true
 same-self None = refl
 same-self (Some a) = eq-eqb a a refl
@@ -56,5 +51,5 @@ is-same f h e = rw e (same-self h)
 -- an entry that is a distance
 pub read-some : (z : Network) → Lawful z → Limited z → (d a x : ℕ) → (x ≡ 4294967295 → ⊥) → same (decoded x) (distance z d a) ≡ true → (Some x ≡ distance z d a) × (x ≤ 4128705)
 read-some z g s d a x h t =
-    let e : Some x ≡ distance z d a = sym (cond-false (eqb x 4294967295) None (Some x) (ne-eqb x 4294967295 h)) ∙ same-is (decoded x) (distance z d a) t in
+    let e : Some x ≡ distance z d a = sym (cond-false (eqb x 4294967295) None (Some x) (ne-eqb x 4294967295 h)) ∙ same-eq (decoded x) (distance z d a) t in
     (e, bounded z g s d a x (sym e))

@@ -3,18 +3,21 @@ use mathlib.Core.Path.{_≡_, refl, sym, ap, _∙_, subst}
 use mathlib.Core.Bool.{Bool, true, false, _&&_}
 use mathlib.Core.List.{List, [], _∷_}
 use mathlib.Core.Logic.{_⊎_, inl, inr}
-use Prim.Native.Nat.{ℕ, _+_, _*_, _<_, _≤_}
+use Prim.Native.Nat.{ℕ, suc, _+_, _-_, _*_, _<_, _≤_}
 use native.Mathlib.Omega.{arith}
 use lib.Dec.{eqb, ltb}
-use lib.ListN.{length, getD, set, replicate, length-set}
+use lib.ListN.{length, getD, set, take, length-set}
 use Rattle.std.specs.declared.option.Option.the-variants.{Some, None}
 use Rattle.std.proofs.shelf.Tests.{both-ways, ltb-true, ltb-false, lt-ltb, eq-eqb, ne-eqb, cases-lt, and-parts, cases-eq, cases-bool, and-cases, cond-true, cond-false, cond-both}
-use Rattle.std.proofs.shelf.Lists.{length-replicate, getD-replicate, getD-set-same, getD-set-other}
-use Rattle.routes.specs.Distances.{decoded, relaxed, NoneFree, Filled, Nearest}
+use Rattle.std.proofs.shelf.Lists.{length-take-le, getD-set-same, getD-set-other, getD-take}
+use Rattle.routes.specs.Distances.{decoded, Filled}
+use Rattle.routes.specs.Dijkstra.{relaxed, numberAt, Numbered, Below, NoneNearer, Nearest}
+use Rattle.routes.proofs.Unsettled.{unsettled-at, at-unsettled, unsettled-some, all-unsettled, Unsettled, gone, same-unsettled, unsettled-less}
 use Rattle.theory.specs.Distance.{IsPath, pathCost, distance, Found}
 use Rattle.theory.specs.Network.{Network, Lawful, Limited}
 use Rattle.theory.proofs.DistanceLaws.{distance-none}
 use Rattle.theory.proofs.Distances.{count, count-most, count-lt, distance-dist}
+use Rattle.links.specs.declared.node.NodeId.{NodeId}
 
 -- o says which nodes are free, and f how far each is as yet
 pub record Partly (z : Network) (d : ℕ) (o : ℕ → Bool) (f : ℕ → ℕ) : Type 0 where
@@ -179,68 +182,110 @@ module _ (z : Network) (g : Lawful z) (s : Limited z) (d : ℕ) (o : ℕ → Boo
 
 -- the same of what stands in memory
 
-abbrev free-at : List Bool → ℕ → Bool
-free-at b k = getD b k false
-
 abbrev dist-at : List ℕ → ℕ → ℕ
 dist-at l k = getD l k 0
 
--- how many nodes are free
-abbrev pub free : Network → List Bool → ℕ
-free z b = count (z .n) (free-at b)
-
-pub record Standing (z : Network) (d : ℕ) (b : List Bool) (l : List ℕ) : Type 0 where
-  pub marks : length b ≡ 64
+pub record Standing (z : Network) (d : ℕ) (ns : List NodeId) (k : ℕ) (l : List ℕ) : Type 0 where
+  pub unsettled : Unsettled (z .n) ns k
   pub size : length l ≡ z .n
   pub aim : d < z .n
-  pub top : (k : ℕ) → k < z .n → getD l k 0 ≤ 4294967295
-  pub part : Partly z d (free-at b) (dist-at l)
+  pub top : (v : ℕ) → v < z .n → getD l v 0 ≤ 4294967295
+  pub part : Partly z d (unsettled-at ns k) (dist-at l)
 
 module _ (z : Network) (g : Lawful z) (s : Limited z) (d : ℕ) where
-  pub stands-none : (l : List ℕ) → d < z .n → length l ≡ z .n → ((k : ℕ) → k < length l → getD l k 0 ≡ 4294967295) → Standing z d (replicate 64 true) (set l d 0)
-  stands-none l h n e =
+  pub stands-none : (ns : List NodeId) (l : List ℕ) → length ns ≡ 64 → Numbered ns 64 → d < z .n → length l ≡ z .n → ((v : ℕ) → v < length l → getD l v 0 ≡ 4294967295) → Standing z d ns (z .n) (set l d 0)
+  stands-none ns l m q h n e =
       let here : getD (set l d 0) d 0 ≡ 0 = getD-set-same l d 0 0 (omega arith) in
-      let others : (k : ℕ) → k < z .n → (k ≡ d → ⊥) → getD (set l d 0) k 0 ≡ 4294967295 =
-      λ k p ne. getD-set-other l d k 0 0 ne ∙ e k (omega arith) in
+      let others : (v : ℕ) → v < z .n → (v ≡ d → ⊥) → getD (set l d 0) v 0 ≡ 4294967295 =
+      λ v p ne. getD-set-other l d v 0 0 ne ∙ e v (omega arith) in
       record {
-        marks = length-replicate 64 true;
+        unsettled = all-unsettled (z .n) ns m q (s .few);
         size = length-set l d 0 ∙ n;
         aim = h;
-        top = λ k p. elim (cases-eq k d) [ inl x ↦ let q : getD (set l d 0) k 0 ≡ 0 = ap (λ i. getD (set l d 0) i 0) x ∙ here in omega arith | inr x ↦ omega (arith, others k p x) ];
-        part = partly-none z g d (free-at (replicate 64 true)) (dist-at (set l d 0)) (λ k p. getD-replicate 64 k true false (omega (arith, s .few))) here others;
+        top = λ v p. elim (cases-eq v d) [ inl x ↦ let q : getD (set l d 0) v 0 ≡ 0 = ap (λ i. getD (set l d 0) i 0) x ∙ here in omega arith | inr x ↦ omega (arith, others v p x) ];
+        part = partly-none z g d (unsettled-at ns (z .n)) (dist-at (set l d 0)) (λ v p. subst (λ i. unsettled-at ns (z .n) i ≡ true) (q v (omega (arith, s .few))) (at-unsettled ns (z .n) v p)) here others;
       }
 
-  module _ (b : List Bool) (l : List ℕ) (i : Standing z d b l) where
-    pub stands-all : NoneFree b l → Filled z d l
+  module _ (ns : List NodeId) (k : ℕ) (l : List ℕ) (i : Standing z d ns k l) where
+    number-taken : (j : ℕ) → j < length (take k ns) → (j < k) × (numberAt (take k ns) j ≡ numberAt ns j)
+    number-taken j h =
+        let q : j < k = omega (arith, length-take-le k ns (omega (arith, i .unsettled .size, i .unsettled .few))) in
+        (q, ap (λ (v : NodeId). v .0) (getD-take k ns j (record { 0 = 0 }) q))
+
+    pub stands-within : Below (take k ns) (length l)
+    stands-within j h = let q = number-taken j h in omega (arith, q .1, i .unsettled .within j (q .0), i .size)
+
+    still-length : (j : ℕ) → j < k → j < length (take k ns)
+    still-length j h = omega (arith, length-take-le k ns (omega (arith, i .unsettled .size, i .unsettled .few)))
+
+    pub stands-all : NoneNearer (take k ns) l → Filled z d l
     stands-all n = record {
       size = i .size;
-      each = λ a h. partly-all z g s d (free-at b) (dist-at l) (i .part) (λ k p q. n k (omega (arith, i .size)) q) a h (i .top a h);
+      each = λ a h. partly-all z g s d (unsettled-at ns k) (dist-at l) (i .part)
+          (λ v p q.
+          let w = unsettled-some ns k v q in
+          let j = still-length (w .0) (w .1) in
+          let e = number-taken (w .0) j .1 ∙ w .2 in
+          subst (λ x. 4294967295 ≤ getD l x 0) e (n (w .0) j))
+          a h (i .top a h);
     }
 
-    module _ (u : ℕ) (n : Nearest b l u) where
-      picks-of : Picks z (free-at b) (dist-at l) u
-      picks-of = record { within = omega (arith, i .size, n .within); free = n .still; some = n .some; least = λ k p q. n .least k (omega (arith, i .size)) q }
+    -- where a nearest node is found, some were left
+    pub some-left : (x : ℕ) → Nearest (take k ns) l x → k ≡ suc (k - 1)
+    some-left x n = omega (arith, number-taken x (n .within) .0)
 
-      less-of : Less u (free-at b) (free-at (set b u false))
-      less-of = record { here = getD-set-same b u false false (omega (arith, picks-of .within, i .marks, s .few)); others = λ k ne. getD-set-other b u k false false ne }
+    -- the node at x is settled, and the last unsettled one takes its place
+    module _ (m : ℕ) (c : k ≡ suc m) (x : ℕ) (n : Nearest (take k ns) l x) where
+      abbrev u : ℕ
+      u = numberAt ns x
 
-      pub stands-less : free z (set b u false) < free z b
-      stands-less = free-falls z (free-at b) (free-at (set b u false)) u (picks-of .within) (picks-of .free) less-of
+      abbrev fewer : List NodeId
+      fewer = set ns x (getD ns m (record { 0 = 0 }))
+
+      at-x : (x < k) × (numberAt (take k ns) x ≡ u)
+      at-x = number-taken x (n .within)
+
+      dist-x : getD l (numberAt (take k ns) x) 0 ≡ getD l u 0
+      dist-x = ap (λ v. getD l v 0) (at-x .1)
+
+      picks-of : Picks z (unsettled-at ns k) (dist-at l) u
+      picks-of = record {
+        within = i .unsettled .within x (at-x .0);
+        free = at-unsettled ns k x (at-x .0);
+        some = omega (arith, n .some, dist-x);
+        least = λ v p q.
+            let w = unsettled-some ns k v q in
+            let j = still-length (w .0) (w .1) in
+            let e : getD l (numberAt (take k ns) (w .0)) 0 ≡ getD l v 0 = ap (λ y. getD l y 0) (number-taken (w .0) j .1 ∙ w .2) in
+            omega (arith, n .least (w .0) j, dist-x);
+      }
+
+      opened : Unsettled (z .n) ns (suc m)
+      opened = subst (λ j. Unsettled (z .n) ns j) c (i .unsettled)
+
+      below : x < suc m
+      below = omega (arith, at-x .0)
+
+      less-of : Less u (unsettled-at ns k) (unsettled-at fewer m)
+      less-of = record {
+        here = gone (z .n) ns m opened x below;
+        others = λ v ne. same-unsettled (z .n) ns m opened x below v ne ∙ ap (λ j. unsettled-at ns j v) (sym c);
+      }
 
       -- near enough for one more link
       pub stands-small : getD l u 0 ≤ 4194240
       stands-small = omega (arith, i .part .small u (picks-of .within) (picks-of .some), s .few)
 
-      pub stands-more : (m : List ℕ) → length m ≡ length l → ((e : ℕ) → e < z .n → getD m e 0 ≡ relaxed (z .cost u e) (getD l u 0) (getD l e 0)) → Standing z d (set b u false) m
-      stands-more m q r =
-          let turn : (e : ℕ) → e < z .n → Relaxed (z .cost u e) (getD l u 0) (getD l e 0) (getD m e 0) =
+      pub stands-more : (q : List ℕ) → length q ≡ length l → ((e : ℕ) → e < z .n → getD q e 0 ≡ relaxed (z .cost u e) (getD l u 0) (getD l e 0)) → Standing z d fewer m q
+      stands-more q o r =
+          let turn : (e : ℕ) → e < z .n → Relaxed (z .cost u e) (getD l u 0) (getD l e 0) (getD q e 0) =
           λ e h. subst (Relaxed (z .cost u e) (getD l u 0) (getD l e 0)) (sym (r e h)) (relaxed-is (z .cost u e) (getD l u 0) (getD l e 0)) in
           record {
-            marks = length-set b u false ∙ i .marks;
-            size = q ∙ i .size;
+            unsettled = unsettled-less (z .n) ns m opened x below;
+            size = o ∙ i .size;
             aim = i .aim;
-            top = λ k h. omega (arith, turn k h .less, i .top k h);
-            part = partly-more z d (free-at b) (free-at (set b u false)) (dist-at l) (dist-at m) u (record {
+            top = λ v h. omega (arith, turn v h .less, i .top v h);
+            part = partly-more z d (unsettled-at ns k) (unsettled-at fewer m) (dist-at l) (dist-at q) u (record {
               lawful = g;
               limited = s;
               aim = i .aim;

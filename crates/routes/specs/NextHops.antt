@@ -23,7 +23,7 @@ numbers ns = map (λ v. v .0) ns
 abbrev pub HopRow : Network → ℕ → ℕ → List (Option NodeId) → Type 0
 HopRow z d k l = (a : ℕ) → a < k → hopOf (getD l a None) ≡ nextHop z d a
 
--- rows of 64: in the first k, row d has the next hop of each node for d
+-- in the first k rows of 64, row d has the next hop of each node for d
 abbrev pub HopRows : Network → ℕ → List (Option NodeId) → Type 0
 HopRows z k l = (d a : ℕ) → (d < k) × (a < z .n) → same (hopOf (getD l (d * 64 + a) None)) (nextHop z d a) ≡ true
 

@@ -27,10 +27,11 @@ fn costs_of(nodes: u8, links: &[Link]) -> [u16; 4096]
 {
     let mut costs = [0; 4096];
     for i in (0..links.len()).rev() {
-        let a = links[i].a.0 as usize;
-        let b = links[i].b.0 as usize;
-        costs[a * 64 + b] = links[i].cost;
-        costs[b * 64 + a] = links[i].cost;
+        let link = links[i];
+        let a = link.a.0 as usize;
+        let b = link.b.0 as usize;
+        costs[a * 64 + b] = link.cost;
+        costs[b * 64 + a] = link.cost;
     }
     costs
 }

@@ -2,7 +2,8 @@ ghost use mathlib.Core.Path.{_≡_};
 ghost use Prim.Native.Nat.{_<_, _≤_};
 ghost use lib.ListN.{length};
 ghost use Rattle.routes.specs.Costs.{Row};
-ghost use Rattle.routes.specs.Distances.{Asked, Filled, IsNearest, Relaxes};
+ghost use Rattle.routes.specs.Dijkstra.{Numbered, Below, IsNearest, Relaxes, relaxed};
+ghost use Rattle.routes.specs.Distances.{Asked, Filled};
 ghost use Rattle.routes.specs.Matrix.{matrixNetwork};
 use super::CostMatrix;
 use links::fault::Fault;
@@ -26,7 +27,7 @@ impl CostMatrix {
         Ok(())
     }
 
-    // Dijkstra's algorithm: the nearest free node is settled, and its links are relaxed.
+    // Dijkstra's algorithm: the nearest unsettled node is settled, and its links are relaxed.
     pub(super) fn settle(&self, d: NodeId, dist: &mut [u32])
         requires { ⌜ d .0 < now self .nodes ⌝ ∗ ⌜ length (now dist) ≡ now self .nodes ⌝ }
         ensures { λ _. ⌜ Filled (matrixNetwork (now (self .entry))) (d .0) (now (dist .exit)) ⌝ }
@@ -34,9 +35,12 @@ impl CostMatrix {
         let end = d.0 as usize;
         dist.fill(NEVER);
         dist[end] = 0;
-        let mut free = [true; 64];
-        while let Some(u) = nearest(&free, dist) {
-            free[u] = false;
+        let mut unsettled = numbered();
+        let mut left = self.nodes as usize;
+        while let Some(i) = nearest(&unsettled[0..left], dist) {
+            let u = unsettled[i].0 as usize;
+            left -= 1;
+            unsettled[i] = unsettled[left];
             relax(self.row(u), dist[u], dist);
         }
     }
@@ -51,17 +55,29 @@ impl CostMatrix {
     }
 }
 
-// The free node with the least distance, if any has one.
-fn nearest(free: &[bool], dist: &[u32]) -> Option<usize>
-    requires { ⌜ length (now dist) ≤ length (now free) ⌝ }
-    ensures { λ r. ⌜ IsNearest (now (free .entry)) (now (dist .entry)) r ⌝ }
+// All nodes that there can be, in their order.
+fn numbered() -> [NodeId; 64]
+    ensures { λ r. ⌜ Numbered r 64 ⌝ }
+{
+    let mut nodes = [NodeId(0); 64];
+    for e in 0..64u8 {
+        nodes[e as usize] = NodeId(e);
+    }
+    nodes
+}
+
+// Which of the unsettled nodes has the least distance, if any has one.
+fn nearest(unsettled: &[NodeId], dist: &[u32]) -> Option<usize>
+    requires { ⌜ Below (now unsettled) (length (now dist)) ⌝ }
+    ensures { λ r. ⌜ IsNearest (now (unsettled .entry)) (now (dist .entry)) r ⌝ }
 {
     let mut best = None;
     let mut least = NEVER;
-    for (e, there) in dist.iter().enumerate() {
-        if free[e] && *there < least {
-            best = Some(e);
-            least = *there;
+    for (i, node) in unsettled.iter().enumerate() {
+        let there = dist[node.0 as usize];
+        if there < least {
+            best = Some(i);
+            least = there;
         }
     }
     best
@@ -73,9 +89,15 @@ fn relax(row: &[u16], here: u32, dist: &mut [u32])
     ensures { λ _. ⌜ Relaxes (now (row .entry)) here (now (dist .entry)) (now (dist .exit)) ⌝ }
 {
     for (e, cost) in row.iter().enumerate() {
-        let by = here + u32::from(*cost);
-        if *cost > 0 && by < dist[e] {
-            dist[e] = by;
-        }
+        dist[e] = by_link(*cost, here, dist[e]);
     }
+}
+
+// The lesser of the distance there and that by a link, if there is one.
+fn by_link(cost: u16, here: u32, there: u32) -> u32
+    requires { ⌜ here ≤ 4194240 ⌝ }
+    ensures { λ r. ⌜ r ≡ relaxed cost here there ⌝ }
+{
+    let by = if cost == 0 { NEVER } else { here + cost as u32 };
+    if by < there { by } else { there }
 }

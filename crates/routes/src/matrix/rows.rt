@@ -18,7 +18,7 @@ impl CostMatrix {
             let at = d as usize * 64;
             let row = &mut dist[at..at + n];
             self.settle(NodeId(d), row);
-            self.next_hops(NodeId(d), row, &mut hops[at..at + n]);
+            self.next_hops(row, &mut hops[at..at + n]);
         }
     }
 }

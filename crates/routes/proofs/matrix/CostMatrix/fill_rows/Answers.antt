@@ -16,5 +16,5 @@ loop-d-again c =
     let m = c .args .self .now in
     let z = matrixNetwork m in (
       rows-more (λ d a x. same (decoded x) (distance z d a) ≡ true) (m .nodes) (c .loop-d .d) _ (c .loop-d .dist) (c .settle .last .dist) 0 (m .few .1) (c .loop-d-test .taken) (omega arith) (c .settle .ensures .size) (c .loop-d .inv .0) (λ a h. is-same _ _ (c .settle .ensures .each a h)),
-      rows-more (λ d a x. same (hopOf x) (nextHop z d a) ≡ true) (m .nodes) (c .loop-d .d) _ (c .loop-d .hops) (c .next-hops .last .hops) None (m .few .1) (c .loop-d-test .taken) (omega arith) (c .next-hops .kept .hops ∙ simp (length-take, length-drop) (omega arith)) (c .loop-d .inv .1) (λ a h. is-same _ _ (c .next-hops .ensures a h)),
+      rows-more (λ d a x. same (hopOf x) (nextHop z d a) ≡ true) (m .nodes) (c .loop-d .d) _ (c .loop-d .hops) (c .next-hops .last .hops) None (m .few .1) (c .loop-d-test .taken) (omega arith) (c .next-hops .kept .hops ∙ simp (length-take, length-drop) (omega arith)) (c .loop-d .inv .1) (λ a h. is-same _ _ (c .next-hops .ensures (c .loop-d .d) (c .settle .ensures) a h)),
     )

@@ -1,34 +1,47 @@
 use native.Mathlib.Omega.{arith}
-use mathlib.Core.Path.{refl, sym, ap, _∙_}
-use lib.ListN.{getD}
-use Rattle.routes.specs.Distances.{relaxed}
+use mathlib.Core.Path.{_≡_, refl, sym, ap, _∙_, subst}
+use Prim.Native.Nat.{suc, _-_, _<_}
+use lib.ListN.{length, getD, take}
+use borrow.Author.Needs.{needs}
+use Rattle.routes.specs.Dijkstra.{relaxed, numberAt, Below, Nearest, NoneNearer}
 use Rattle.routes.specs.Matrix.{matrixNetwork}
 use Rattle.routes.proofs.Costs.{matrix-lawful, matrix-limited}
-use Rattle.routes.proofs.Settled.{stands-none, stands-less, stands-more, stands-all, stands-small}
+use Rattle.routes.proofs.Settled.{Standing, stands-none, stands-within, stands-more, stands-all, stands-small, some-left}
 use Rattle.routes.proofs.matrix.CostMatrix.settle.Needs as need
 
-pub loop-u-holds : need.loop-u-holds
-loop-u-holds c =
+pub loop-i-holds : need.loop-i-holds
+loop-i-holds c =
     let m = c .args .self .now in
-    stands-none (matrixNetwork m) (matrix-lawful m) (matrix-limited m) (c .args .d .0) (c .fill .last .self) (c .pre .0) (omega arith) (λ k h. c .fill .ensures .clones k 0 (omega arith) refl)
+    let n : length (c .numbered-unsettled .result) ≡ 64 = search needs in
+    stands-none (matrixNetwork m) (matrix-lawful m) (matrix-limited m) (c .args .d .0) (c .numbered-unsettled .result) (c .fill .last .self) n (c .numbered-unsettled .ensures) (c .pre .0) (omega arith) (λ k h. c .fill .ensures .clones k 0 (omega arith) refl)
+
+pub nearest-requires : need.nearest-requires
+nearest-requires c κs =
+    let m = c .args .self .now in
+    let e : c .loop-i .left ≡ c .loop-i .left - 0 = omega arith in
+    subst (λ j. Below (take j (c .loop-i .unsettled)) (length (c .loop-i .dist))) e
+    (stands-within (matrixNetwork m) (matrix-lawful m) (matrix-limited m) (c .args .d .0) (c .loop-i .unsettled) (c .loop-i .left) (c .loop-i .dist) (c .loop-i .inv))
 
 pub relax-requires : need.relax-requires
 relax-requires c κs =
     let m = c .args .self .now in
-    (c .row .ensures .size ∙ sym (c .loop-u .inv .size), stands-small (matrixNetwork m) (matrix-lawful m) (matrix-limited m) (c .args .d .0) (c .loop-u .free) (c .loop-u .dist) (c .loop-u .inv) (c .in-Some .u) (c .in-Some .ensures tt))
+    let e : c .loop-i .left - 0 ≡ c .loop-i .left = omega arith in
+    let n = subst (λ j. Nearest (take j (c .loop-i .unsettled)) (c .loop-i .dist) (c .in-Some .i)) e (c .in-Some .ensures tt) in
+    let s = some-left (matrixNetwork m) (matrix-lawful m) (matrix-limited m) (c .args .d .0) (c .loop-i .unsettled) (c .loop-i .left) (c .loop-i .dist) (c .loop-i .inv) (c .in-Some .i) n in
+    (c .row .ensures .size ∙ sym (c .loop-i .inv .size), stands-small (matrixNetwork m) (matrix-lawful m) (matrix-limited m) (c .args .d .0) (c .loop-i .unsettled) (c .loop-i .left) (c .loop-i .dist) (c .loop-i .inv) (c .loop-i .left - 1) s (c .in-Some .i) n)
 
-pub loop-u-less : need.loop-u-less
-loop-u-less c =
+pub loop-i-again : need.loop-i-again
+loop-i-again c =
     let m = c .args .self .now in
-    stands-less (matrixNetwork m) (matrix-lawful m) (matrix-limited m) (c .args .d .0) (c .loop-u .free) (c .loop-u .dist) (c .loop-u .inv) (c .in-Some .u) (c .in-Some .ensures tt)
-
-pub loop-u-again : need.loop-u-again
-loop-u-again c =
-    let m = c .args .self .now in
-    stands-more (matrixNetwork m) (matrix-lawful m) (matrix-limited m) (c .args .d .0) (c .loop-u .free) (c .loop-u .dist) (c .loop-u .inv) (c .in-Some .u) (c .in-Some .ensures tt) (c .relax .last .dist) (omega arith)
-    (λ e h. c .relax .ensures e (omega (arith, c .row .ensures .size)) ∙ ap (λ k. relaxed k (getD (c .loop-u .dist) (c .in-Some .u) 0) (getD (c .loop-u .dist) e 0)) (c .row .ensures .each e h))
+    let e : c .loop-i .left - 0 ≡ c .loop-i .left = omega arith in
+    let n = subst (λ j. Nearest (take j (c .loop-i .unsettled)) (c .loop-i .dist) (c .in-Some .i)) e (c .in-Some .ensures tt) in
+    let s = some-left (matrixNetwork m) (matrix-lawful m) (matrix-limited m) (c .args .d .0) (c .loop-i .unsettled) (c .loop-i .left) (c .loop-i .dist) (c .loop-i .inv) (c .in-Some .i) n in
+    let u = numberAt (c .loop-i .unsettled) (c .in-Some .i) in
+    stands-more (matrixNetwork m) (matrix-lawful m) (matrix-limited m) (c .args .d .0) (c .loop-i .unsettled) (c .loop-i .left) (c .loop-i .dist) (c .loop-i .inv) (c .loop-i .left - 1) s (c .in-Some .i) n (c .relax .last .dist) (omega arith)
+    (λ e h. c .relax .ensures e (omega (arith, c .row .ensures .size)) ∙ ap (λ k. relaxed k (getD (c .loop-i .dist) u 0) (getD (c .loop-i .dist) e 0)) (c .row .ensures .each e h))
 
 pub returns : need.returns
 returns c =
     let m = c .args .self .now in
-    stands-all (matrixNetwork m) (matrix-lawful m) (matrix-limited m) (c .args .d .0) (c .loop-u .free) (c .loop-u .dist) (c .loop-u .inv) (c .in-rest .ensures tt)
+    let e : c .loop-i .left - 0 ≡ c .loop-i .left = omega arith in
+    stands-all (matrixNetwork m) (matrix-lawful m) (matrix-limited m) (c .args .d .0) (c .loop-i .unsettled) (c .loop-i .left) (c .loop-i .dist) (c .loop-i .inv) (subst (λ j. NoneNearer (take j (c .loop-i .unsettled)) (c .loop-i .dist)) e (c .in-rest .ensures tt))

@@ -1,9 +1,9 @@
 use Rattle.routes.specs.Matrix.{matrixNetwork}
-use Rattle.routes.proofs.Settled.{Standing, free}
+use Rattle.routes.proofs.Settled.{Standing}
 use Rattle.routes.proofs.matrix.CostMatrix.settle.Given as given
 
-abbrev pub Inv-loop-u : given.InvT-loop-u
-Inv-loop-u l = Standing (matrixNetwork (l .self)) (l .end) (l .free) (l .dist)
+abbrev pub Inv-loop-i : given.InvT-loop-i
+Inv-loop-i l = Standing (matrixNetwork (l .self)) (l .end) (l .unsettled) (l .left) (l .dist)
 
-abbrev pub μ-loop-u : given.MeasureT-loop-u
-μ-loop-u l = free (matrixNetwork (l .self)) (l .free)
+abbrev pub μ-loop-i : given.MeasureT-loop-i
+μ-loop-i l = l .left

@@ -1,7 +1,7 @@
 use Prim.Native.Nat.{ℕ, _<_, _≤_}
 use mathlib.Core.Path.{_≡_}
 use lib.ListN.{getD}
-use Rattle.routes.specs.Distances.{relaxed}
+use Rattle.routes.specs.Dijkstra.{relaxed}
 use Rattle.routes.proofs.matrix.distances.relax.Given as given
 
 abbrev pub Inv-loop-e : given.InvT-loop-e

@@ -1,0 +1,5 @@
+// Tests of the libraries, as tables of cases.
+#[cfg(test)]
+mod lists;
+#[cfg(test)]
+mod ring;

@@ -1,3 +1,0 @@
-// Repairs, laid up beforehand for each link of a node and each destination.
-pub mod laying;
-pub mod repair;
