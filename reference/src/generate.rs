@@ -95,6 +95,29 @@ pub fn full(nodes: u8) -> Topology {
     draft.topology(nodes)
 }
 
+/// A ring of `nodes` nodes and chords spread evenly over all that there are, as
+/// many links as asked for: the same for every call.
+pub fn sparse(nodes: u8, links: u16) -> Topology {
+    let order: Vec<NodeId> = NodeId::first(nodes).collect();
+    let random = &mut Random::new(0);
+    let mut draft = Draft { costs: Costs::Any, random, links: BTreeMap::new() };
+    draft.ring(&order);
+    let all = chords(&order);
+    let chosen = usize::from(links) - order.len();
+    for position in 0..chosen {
+        let [a, b] = all[position * all.len() / chosen];
+        draft.link(a, b);
+    }
+    draft.topology(nodes)
+}
+
+/// All pairs of nodes that are no neighbours on the ring.
+fn chords(ring: &[NodeId]) -> Vec<[NodeId; 2]> {
+    let far = |a: usize, b: usize| b - a > 1 && b - a < ring.len() - 1;
+    let from = |a| (a..ring.len()).filter(move |&b| far(a, b)).map(move |b| [ring[a], ring[b]]);
+    (0..ring.len()).flat_map(from).collect()
+}
+
 /// A line of 64 nodes in rising order, all at the greatest cost: its ends are as
 /// far apart as nodes can be.
 pub fn longest_line() -> Topology {

@@ -4,27 +4,34 @@ use crate::adjacency::Adjacency;
 use crate::fault::Fault;
 use crate::report::Report;
 use crate::routes::Routes;
+use crate::summary::Summary;
+use crate::topology::Topology;
 use crate::wire;
 
 /// What is printed.
-#[derive(Clone, Copy, Debug, PartialEq, Eq)]
-pub enum Parts {
-    /// Distances and next-hop tables.
-    Routes,
-    /// Repairs too.
-    RoutesAndDetours,
+#[derive(Clone, Copy, Debug, PartialEq, Eq, PartialOrd, Ord)]
+pub enum Form {
+    /// Distances, next-hop tables and repairs.
+    Plan,
+    /// What the failures of single links mean, in a few lines.
+    Summary,
 }
 
-pub fn lay(list: &[u8], parts: Parts) -> Result<Vec<u8>, Fault> {
+pub fn lay(list: &[u8], form: Form) -> Result<Vec<u8>, Fault> {
     let topology = wire::parse(list)?;
     let network = Adjacency::of(&topology);
     let routes = Routes::new(&topology, &network);
+    Ok(match form {
+        Form::Plan => plan(&topology, &network, &routes),
+        Form::Summary => Summary::of(&topology, &network, &routes).to_string().into_bytes(),
+    })
+}
+
+fn plan(topology: &Topology, network: &Adjacency, routes: &Routes) -> Vec<u8> {
     let mut report = Report::default();
-    report.places(&topology);
-    report.distances(&topology, &routes);
-    report.tables(&topology, &routes);
-    if parts == Parts::RoutesAndDetours {
-        report.detours(&topology, &network, &routes);
-    }
-    Ok(report.into_bytes())
+    report.places(topology);
+    report.distances(topology, routes);
+    report.tables(topology, routes);
+    report.detours(topology, network, routes);
+    report.into_bytes()
 }

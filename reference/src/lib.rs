@@ -18,5 +18,6 @@ pub mod random;
 pub mod repairs;
 pub mod report;
 pub mod routes;
+pub mod summary;
 pub mod topology;
 pub mod wire;

@@ -1,18 +1,25 @@
 //! `reference`: prints what the proved `lay` prints, and makes networks.
 
-use reference::lay::{lay, Parts};
+use reference::lay::{lay, Form};
 use reference::node::MAX_NODES;
 use reference::{generate, wire};
+use std::fmt::Display;
 use std::io::{self, Read, Write};
+use std::ops::RangeInclusive;
 use std::process::ExitCode;
+use std::str::FromStr;
 
 const HELP: &str = "\
-usage: reference lay [FILE] [--detours]
+usage: reference lay [--summary] [FILE]
        reference dense NODES
+       reference sparse NODES LINKS
 
-lay    reads a list of links in bytes (standard input where no file is named)
-       and prints distances and next-hop tables, and repairs with --detours
-dense  writes in bytes the list of all links between NODES nodes
+lay     reads a list of links in bytes (standard input where no file is named)
+        and prints distances, next-hop tables and repairs; with --summary, what
+        the failures of single links mean
+dense   writes in bytes the list of all links between NODES nodes
+sparse  writes in bytes a list of LINKS links between NODES nodes: a ring, and
+        chords across it
 ";
 
 /// Why the program ends without its answer.
@@ -44,16 +51,17 @@ fn run(arguments: &[String]) -> Result<(), Failure> {
         ["--help"] => write(HELP.as_bytes()),
         ["lay", ref rest @ ..] => run_lay(rest),
         ["dense", nodes] => run_dense(nodes),
+        ["sparse", nodes, links] => run_sparse(nodes, links),
         _ => Err(Failure::Other("unknown arguments; see --help".into())),
     }
 }
 
 fn run_lay(words: &[&str]) -> Result<(), Failure> {
-    let mut parts = Parts::Routes;
+    let mut form = Form::Plan;
     let mut file = None;
     for &word in words {
         match word {
-            "--detours" => parts = Parts::RoutesAndDetours,
+            "--summary" => form = Form::Summary,
             _ if word.starts_with('-') => {
                 return Err(Failure::Other(format!("unknown option {word}")));
             }
@@ -62,15 +70,30 @@ fn run_lay(words: &[&str]) -> Result<(), Failure> {
         }
     }
     let list = read(file)?;
-    let text = lay(&list, parts).map_err(Failure::Refused)?;
+    let text = lay(&list, form).map_err(Failure::Refused)?;
     write(&text)
 }
 
 fn run_dense(nodes: &str) -> Result<(), Failure> {
-    match nodes.parse() {
-        Ok(nodes) if (1..=MAX_NODES).contains(&nodes) => write(&wire::emit(&generate::full(nodes))),
-        _ => Err(Failure::Other(format!("{nodes} is not a number from 1 to {MAX_NODES}"))),
-    }
+    let nodes = number(nodes, 1..=MAX_NODES)?;
+    write(&wire::emit(&generate::full(nodes)))
+}
+
+/// A ring has three nodes or more, and a link for each.
+fn run_sparse(nodes: &str, links: &str) -> Result<(), Failure> {
+    let nodes = number(nodes, 3..=MAX_NODES)?;
+    let ring = u16::from(nodes);
+    let links = number(links, ring..=ring * (ring - 1) / 2)?;
+    write(&wire::emit(&generate::sparse(nodes, links)))
+}
+
+fn number<T>(word: &str, range: RangeInclusive<T>) -> Result<T, Failure>
+where
+    T: FromStr + PartialOrd + Display,
+{
+    let (least, most) = (range.start(), range.end());
+    let lawful = word.parse().ok().filter(|number| range.contains(number));
+    lawful.ok_or_else(|| Failure::Other(format!("{word} is not a number from {least} to {most}")))
 }
 
 fn read(file: Option<&str>) -> Result<Vec<u8>, Failure> {

@@ -13,6 +13,8 @@ use crate::topology::{Link, Topology};
 pub struct Repair {
     pub p: NodeId,
     pub q: NodeId,
+    /// The least cost of a path that is left.
+    pub cost: u32,
 }
 
 /// What the failure of a link means for one destination.
@@ -20,8 +22,8 @@ pub struct Repair {
 pub enum Protection {
     /// Neither end sends over the link.
     Unused,
-    /// An end sends over the link, and without it there is no path.
-    Apart,
+    /// `sender` is the end that sends over the link; without it there is no path.
+    Apart { sender: NodeId },
     /// `sender` is the end that sends over the link.
     Repaired { sender: NodeId, repair: Repair },
 }
@@ -41,7 +43,7 @@ pub fn protections(
     let protect = |(destination, sender)| match sender {
         None => Protection::Unused,
         Some(sender) => match repair(link, sender, destination, &rest, routes) {
-            None => Protection::Apart,
+            None => Protection::Apart { sender },
             Some(repair) => Protection::Repaired { sender, repair },
         },
     };
@@ -61,9 +63,9 @@ fn sender_over(link: Link, destination: NodeId, routes: &Routes) -> Option<NodeI
     }
 }
 
-/// The last hop p to q of the path in the rest of the network such that the
-/// present paths from the sender to p and from q to the destination don't use
-/// the failed link.
+/// The last hop p to q of the path by the next hops of the rest of the network
+/// such that the present paths from the sender to p and from q to the
+/// destination don't use the failed link.
 fn repair(
     failed: Link,
     sender: NodeId,
@@ -71,17 +73,11 @@ fn repair(
     rest: &Adjacency,
     routes: &Routes,
 ) -> Option<Repair> {
-    let path = post_convergence_path(sender, destination, rest);
-    path.windows(2).rev().map(|hop| Repair { p: hop[0], q: hop[1] }).find(|hop| {
+    let distances = Distances::up_to(sender, destination, rest);
+    let cost = distances.distance(sender)?;
+    let next = |&node: &NodeId| distances.next_hop(node, rest);
+    let path: Vec<NodeId> = std::iter::successors(Some(sender), next).collect();
+    path.windows(2).rev().map(|hop| Repair { p: hop[0], q: hop[1], cost }).find(|hop| {
         !routes.path_uses(failed, sender, hop.p) && !routes.path_uses(failed, hop.q, destination)
     })
-}
-
-/// The path by the next hops of the rest of the network, from `source` as far
-/// as it goes: to the destination, or no farther than `source` itself where
-/// there is no path.
-fn post_convergence_path(source: NodeId, destination: NodeId, rest: &Adjacency) -> Vec<NodeId> {
-    let distances = Distances::up_to(source, destination, rest);
-    let next = |&node: &NodeId| distances.next_hop(node, rest);
-    std::iter::successors(Some(source), next).collect()
 }

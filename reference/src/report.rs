@@ -1,4 +1,4 @@
-//! The text that `lay` prints.
+//! The plan that `lay` prints.
 
 use crate::adjacency::Adjacency;
 use crate::node::NodeId;
@@ -68,8 +68,8 @@ impl Report {
     fn protection(&mut self, protection: Protection) {
         match protection {
             Protection::Unused => self.text("unused"),
-            Protection::Apart => self.text("apart"),
-            Protection::Repaired { sender, repair: Repair { p, q } } => {
+            Protection::Apart { .. } => self.text("apart"),
+            Protection::Repaired { sender, repair: Repair { p, q, .. } } => {
                 self.node(sender);
                 self.text(":");
                 self.hop(p, q);

@@ -5,7 +5,7 @@ use crate::node::{NodeId, MAX_NODES};
 use std::fmt;
 
 /// A link of a network, with the same cost both ways.
-#[derive(Clone, Copy, Debug, PartialEq, Eq)]
+#[derive(Clone, Copy, Debug, PartialEq, Eq, PartialOrd, Ord)]
 pub struct Link {
     pub lower: NodeId,
     pub higher: NodeId,

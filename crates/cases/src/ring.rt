@@ -136,6 +136,6 @@ fn an_isolated_node(rt: LibcRuntime) -> Result<(), Fail> {
     let text = plan(rt.alloc(), &topology)?;
     check_eq(
         text.as_slice(),
-        b"places 3\ndistances\n0: 0 - 65535\n1: - 0 -\n2: 65535 - 0\ntables\n0: - - 2\n1: - - -\n2: 0 - -\n",
+        b"places 3\ndistances\n0: 0 - 65535\n1: - 0 -\n2: 65535 - 0\ntables\n0: - - 2\n1: - - -\n2: 0 - -\ndetours\n0-2: apart unused apart\n",
     )
 }

@@ -1,4 +1,4 @@
-// Reads a list of links and prints the distances and the next-hop tables of the network.
+// Reads a list of links and prints the distances, the next-hop tables and the repairs of the network.
 use links::fault::FaultDisplay;
 use links::topology::Topology;
 use links::wire::ReadError;
@@ -9,30 +9,37 @@ use std::error::AnyError;
 use std::fs;
 use std::io::Read;
 use std::io::Write;
+use summary::summary;
 
-// What is asked for on the command line.
+mod summary;
+
+// What is asked for on the command line: the file, if one is named, and whether only a summary is wanted.
 #[derive(Drop)]
 enum Request {
     Help,
-    Lay(Option<String>),
+    Lay(Option<String>, bool),
 }
 
 fn asked(rt: &LibcRuntime) -> Result<Request, AnyError> {
     let mut file = None;
+    let mut brief = false;
     for word in env::args(rt)?.skip(1) {
         if word.as_str() == "--help" {
             return Ok(Request::Help);
         }
-        if word.as_str().starts_with('-') || file.is_some() {
-            return Err("usage: lay [FILE], or lay --help".into());
+        if word.as_str() == "--summary" {
+            brief = true;
+        } else if word.as_str().starts_with('-') || file.is_some() {
+            return Err("usage: lay [--summary] [FILE], or lay --help".into());
+        } else {
+            file = Some(word);
         }
-        file = Some(word);
     }
-    Ok(Request::Lay(file))
+    Ok(Request::Lay(file, brief))
 }
 
 fn print_help(rt: &LibcRuntime) -> Result<(), AnyError> {
-    println!(rt, "usage: lay [FILE]")?;
+    println!(rt, "usage: lay [--summary] [FILE]")?;
     println!(rt, "")?;
     println!(
         rt,
@@ -46,6 +53,18 @@ fn print_help(rt: &LibcRuntime) -> Result<(), AnyError> {
     println!(
         rt,
         "  tables       the same with next hops; - at the destination itself and where there is no path"
+    )?;
+    println!(
+        rt,
+        "  detours      a row for each link, a column for each destination: s:p-q where the end s sends over the link"
+    )?;
+    println!(
+        rt,
+        "               and its repair is by p and the link p-q; apart where no path is left; unused where no end sends"
+    )?;
+    println!(
+        rt,
+        "--summary prints how many repairs there are, which failures cut whom off, and the longest repair instead."
     )?;
     println!(
         rt,
@@ -85,12 +104,16 @@ fn print_plan(rt: &LibcRuntime, topology: &Topology) -> Result<(), AnyError> {
 }
 
 fn run(rt: &LibcRuntime) -> Result<(), AnyError> {
-    let file = match asked(rt)? {
+    let (file, brief) = match asked(rt)? {
         Request::Help => return print_help(rt),
-        Request::Lay(file) => file,
+        Request::Lay(file, brief) => (file, brief),
     };
     let bytes = input(rt, file)?;
     match Topology::read(rt.alloc(), bytes.as_slice()) {
+        Ok(topology) if brief => {
+            let text = summary(rt.alloc(), &topology)?;
+            Ok(rt.stdout().write_all(text.as_bytes())?)
+        }
         Ok(topology) => print_plan(rt, &topology),
         Err(e) => Err(refusal(rt.alloc(), e)?),
     }

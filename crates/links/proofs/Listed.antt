@@ -57,7 +57,7 @@ own-ends l =
 
 listed-from : (n : ℕ) (p : Link) (ls : List Link) → risingFrom n p ls ≡ true → Listed ls
 listed-from n p [] t i h = absurd (omega arith)
-listed-from n p (l ∷ ls) t zero h = cost-here l ls (l .a .0) (l .b .0) (own-ends l)
+listed-from n p (l ∷ ls) t zero h = (rising-parts n p l ls t .0 .some, cost-here l ls (l .a .0) (l .b .0) (own-ends l))
 listed-from n p (l ∷ ls) t (suc i) h =
     let s = rising-parts n p l ls t in
     let x = getD ls i start in
@@ -65,7 +65,8 @@ listed-from n p (l ∷ ls) t (suc i) h =
       | inl u ↦ absurd (apart l x (s .0 .order) (later n l ls (s .1) i (omega arith)) u)
       | inr u ↦ u
     ] in
-    cost-there l ls (x .a .0) (x .b .0) j ∙ listed-from n l ls (s .1) i (omega arith)
+    let r = listed-from n l ls (s .1) i (omega arith) in
+    (r .0, cost-there l ls (x .a .0) (x .b .0) j ∙ r .1)
 
 pub listed : (n : ℕ) (ls : List Link) → rising n ls ≡ true → Listed ls
 listed n ls t = listed-from n start ls t

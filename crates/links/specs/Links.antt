@@ -40,4 +40,6 @@ networkOf n ls = record { n = n; cost = costIn ls }
 
 -- each link of the list is a link of the network, at its cost: none hides another
 abbrev pub Listed : List Link → Type 0
-Listed ls = (i : ℕ) → i < length ls → costIn ls (getD ls i start .a .0) (getD ls i start .b .0) ≡ getD ls i start .cost
+Listed ls =
+    (i : ℕ) → i < length ls →
+    (0 < getD ls i start .cost) × (costIn ls (getD ls i start .a .0) (getD ls i start .b .0) ≡ getD ls i start .cost)

@@ -10,7 +10,8 @@ use lib.ListN.{length, getD, take}
 use Rattle.std.specs.declared.option.Option.{Option}
 use Rattle.std.specs.declared.option.Option.the-variants.{Some, None}
 use Rattle.std.proofs.shelf.Tests.{eq-eqb, ne-eqb, cases-eq, cond-false}
-use Rattle.std.proofs.shelf.Lists.{getD-append-left, length-take-le, getD-take, getD-append-right}
+use Rattle.std.proofs.shelf.Lists.{getD-append-left, length-take-le, getD-take, getD-drop, getD-append-right}
+use Rattle.std.proofs.shelf.Parts.{drop-putMid}
 use borrow.Rule.Slice.PartMut.{putMid, postOf}
 use Rattle.routes.specs.Distances.{decoded}
 use Rattle.theory.specs.NextHop.{same}
@@ -21,14 +22,21 @@ use Rattle.theory.proofs.HopPaths.{bounded}
 
 -- what a list holds after a part of it was written
 
-put-below : {X : Type 0} (s k : ℕ) (xs ys : List X) (i : ℕ) (v : X) → s ≤ length xs → i < s → getD (putMid s k xs ys) i v ≡ getD xs i v
+pub put-below : {X : Type 0} (s k : ℕ) (xs ys : List X) (i : ℕ) (v : X) → s ≤ length xs → i < s → getD (putMid s k xs ys) i v ≡ getD xs i v
 put-below s k xs ys i v h l = getD-append-left (take s xs) _ v i (omega (arith, length-take-le s xs h)) ∙ getD-take s xs i v l
 
-put-in : {X : Type 0} (s k : ℕ) (xs ys : List X) (j : ℕ) (v : X) → s ≤ length xs → j < length ys → getD (putMid s k xs ys) (s + j) v ≡ getD ys j v
+pub put-in : {X : Type 0} (s k : ℕ) (xs ys : List X) (j : ℕ) (v : X) → s ≤ length xs → j < length ys → getD (putMid s k xs ys) (s + j) v ≡ getD ys j v
 put-in s k xs ys j v h l =
     let e : s + j - s ≡ j = omega arith in
     getD-append-right (take s xs) (ys ++ postOf s k xs) s (s + j) v (length-take-le s xs h) (omega arith) ∙
     (ap (λ i. getD (ys ++ postOf s k xs) i v) e ∙ getD-append-left ys (postOf s k xs) v j l)
+
+pub put-above : {X : Type 0} (s k : ℕ) (xs ys : List X) (i : ℕ) (v : X) → s ≤ length xs → length ys ≡ k → s + k ≤ i → getD (putMid s k xs ys) i v ≡ getD xs i v
+put-above s k xs ys i v h e l =
+    let j : s + k + (i - (s + k)) ≡ i = omega arith in
+    ap (λ x. getD (putMid s k xs ys) x v) (sym j) ∙
+    (sym (getD-drop (s + k) (putMid s k xs ys) (i - (s + k)) v) ∙
+    (ap (λ l. getD l (i - (s + k)) v) (drop-putMid s k xs ys (s + k) (omega arith) h e) ∙ (getD-drop (s + k) xs (i - (s + k)) v ∙ ap (λ x. getD xs x v) j)))
 
 -- what holds of the rows below d and of row d, as it is written, holds of the rows below d + 1
 pub rows-more : {X : Type 0} (P : ℕ → ℕ → X → Type 0) (n d k : ℕ) (xs ys : List X) (v : X) → n ≤ 64 → d < n → length xs ≡ 4096 → length ys ≡ n →

@@ -8,7 +8,7 @@ use lib.ListN.{length, getD}
 use Rattle.std.specs.declared.option.Option.{Option}
 use Rattle.std.specs.declared.option.Option.the-variants.{Some, None}
 use Rattle.links.specs.Links.{networkOf}
-use Rattle.theory.specs.Network.{Network}
+use Rattle.theory.specs.Network.{Network, LinkId, without}
 use Rattle.links.specs.declared.link.Link.{Link}
 
 -- the cost in row a and column b; only the first n of each count
@@ -45,3 +45,10 @@ pub record Written (n : ℕ) (ls : List Link) (m : List ℕ) : Type 0 where
   pub symmetric : Symmetric n m
   pub loopless : Loopless n m
   pub light : Light n m
+
+-- new has the costs of old but for the link r
+pub record Left (n : ℕ) (r : LinkId) (old new : List ℕ) : Type 0 where
+  pub network : networkIn n new ≡ without r (networkIn n old)
+  pub symmetric : Symmetric n new
+  pub loopless : Loopless n new
+  pub light : Light n new

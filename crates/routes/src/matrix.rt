@@ -6,6 +6,7 @@ pub mod distances;
 pub mod next_hops;
 pub mod parts;
 pub mod rows;
+pub mod without;
 
 // What the links of a network cost, in rows of 64, a row for each node: 0 where there is no link.
 #[derive(Drop)]

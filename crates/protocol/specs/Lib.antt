@@ -1,0 +1,11 @@
+pub mod Router
+pub mod Hearing
+pub mod Switching
+pub mod Packet
+pub mod System
+pub mod Failed
+pub mod Order
+pub mod Delivery
+pub mod Costs
+pub mod Progress
+pub mod Worked
