@@ -2,6 +2,7 @@
 
 use crate::damage::{byte_changes, cuts, Damage};
 use crate::generate::{self, Costs, Shape};
+use crate::lay::Form;
 use crate::node::MAX_NODES;
 use crate::random::Random;
 use crate::topology::Topology;
@@ -10,15 +11,24 @@ use crate::wire;
 /// How many lists get random damage.
 const DAMAGED: usize = 500;
 
+/// Of how many of them the summary is compared too.
+const DAMAGED_SUMMED_UP: usize = 50;
+
 /// Bytes to be read as a list of links.
 pub struct Input {
     pub name: String,
     pub bytes: Vec<u8>,
+    /// What is compared.
+    pub forms: &'static [Form],
 }
 
 impl Input {
     fn new(name: impl Into<String>, bytes: Vec<u8>) -> Input {
-        Input { name: name.into(), bytes }
+        Input { name: name.into(), bytes, forms: &[Form::Plan] }
+    }
+
+    fn summed_up(self) -> Input {
+        Input { forms: &[Form::Plan, Form::Summary], ..self }
     }
 }
 
@@ -27,7 +37,8 @@ pub fn all(networks: usize, random: &mut Random) -> Vec<Input> {
     let mut inputs = extremes();
     inputs.extend(lawful(networks, random));
     inputs.extend(longer_lists(random));
-    inputs.extend((0..DAMAGED).map(|_| damaged(random)));
+    inputs.extend((0..DAMAGED_SUMMED_UP).map(|_| damaged(random).summed_up()));
+    inputs.extend((DAMAGED_SUMMED_UP..DAMAGED).map(|_| damaged(random)));
     inputs.extend(cut_lists(random));
     inputs.extend(changed_lists(random));
     inputs
@@ -41,7 +52,7 @@ fn extremes() -> Vec<Input> {
         ("the greatest distance", generate::longest_line()),
         ("all links between 64 nodes", generate::full(MAX_NODES)),
     ];
-    networks.map(|(name, network)| Input::new(name, wire::emit(&network))).into()
+    networks.map(|(name, network)| Input::new(name, wire::emit(&network)).summed_up()).into()
 }
 
 fn unlinked(nodes: u8) -> Topology {
@@ -53,7 +64,7 @@ fn lawful(networks: usize, random: &mut Random) -> Vec<Input> {
     let kinds = Shape::ALL.iter().flat_map(|shape| Costs::ALL.map(|costs| (*shape, costs)));
     let network = |(shape, costs)| {
         let list = wire::emit(&generate::network(shape, costs, random));
-        Input::new(format!("{shape:?} with costs {costs:?}"), list)
+        Input::new(format!("{shape:?} with costs {costs:?}"), list).summed_up()
     };
     kinds.cycle().take(networks).map(network).collect()
 }

@@ -18,7 +18,6 @@ pub struct Summary {
 }
 
 /// The path from an end of a failed link to a destination.
-#[derive(Clone, Copy)]
 struct Detour {
     failed: Link,
     sender: NodeId,
@@ -65,9 +64,9 @@ impl Summary {
     }
 
     /// The first of the detours that add most to the cost.
-    fn longest(&self) -> Option<Detour> {
-        let longer = |best: Detour, next: Detour| if next.more() > best.more() { next } else { best };
-        self.detours.iter().copied().reduce(longer)
+    fn longest(&self) -> Option<&Detour> {
+        // Backwards, since `max_by_key` gives the last of equals.
+        self.detours.iter().rev().max_by_key(|detour| detour.more())
     }
 }
 

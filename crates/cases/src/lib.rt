@@ -2,4 +2,6 @@
 #[cfg(test)]
 mod lists;
 #[cfg(test)]
+mod repaired;
+#[cfg(test)]
 mod ring;

@@ -2,31 +2,32 @@
 //! the reference.
 
 use reference::answer::{difference, Answer, Run};
+use reference::fault::Fault;
 use reference::inputs::{self, Input};
-use reference::lay::{lay, Parts};
+use reference::lay::{lay, Form};
 use reference::random::Random;
 use reference::wire::PIECE;
 use std::collections::BTreeMap;
 use std::fs;
 use std::io::{self, Write};
 use std::path::{Path, PathBuf};
-use std::process::{Command, ExitCode, Stdio};
+use std::process::{Command, ExitCode, Output, Stdio};
 use std::time::SystemTime;
 
 const HELP: &str = "\
-usage: compare --lay PATH [--seed N] [--networks N] [--detours]
+usage: compare --lay PATH [--seed N] [--networks N]
 
 --lay       the program to be compared with the reference
 --seed      the seed of the random inputs (from the clock where none is given)
 --networks  the number of random lawful networks (300)
---detours   the program prints repairs too
+
+The plans of all inputs are compared, and the summaries of some.
 ";
 
 struct Options {
     lay: PathBuf,
     seed: u64,
     networks: usize,
-    parts: Parts,
 }
 
 fn main() -> ExitCode {
@@ -48,7 +49,6 @@ fn parse(arguments: Vec<String>) -> Result<Options, String> {
     let mut program = None;
     let mut seed = None;
     let mut networks = 300;
-    let mut parts = Parts::Routes;
     let mut words = arguments.into_iter();
     while let Some(word) = words.next() {
         let mut value = || words.next().ok_or(format!("{word} needs a value"));
@@ -56,12 +56,11 @@ fn parse(arguments: Vec<String>) -> Result<Options, String> {
             "--lay" => program = Some(PathBuf::from(value()?)),
             "--seed" => seed = Some(number(&value()?)?),
             "--networks" => networks = number(&value()?)? as usize,
-            "--detours" => parts = Parts::RoutesAndDetours,
             _ => return Err(format!("unknown argument {word}; see --help")),
         }
     }
     let lay = program.ok_or("--lay PATH is missing; see --help")?;
-    Ok(Options { lay, seed: seed.unwrap_or_else(clock_seed), networks, parts })
+    Ok(Options { lay, seed: seed.unwrap_or_else(clock_seed), networks })
 }
 
 fn number(word: &str) -> Result<u64, String> {
@@ -76,71 +75,96 @@ fn clock_seed() -> u64 {
 fn compare(options: &Options) -> Result<ExitCode, String> {
     println!("compare: seed {}", options.seed);
     let mut scratch = Scratch::new().map_err(|error| format!("scratch directory: {error}"))?;
-    let inputs = inputs::all(options.networks, &mut Random::new(options.seed));
-    let mut counts = BTreeMap::new();
+    let random = &mut Random::new(options.seed);
+    let inputs = inputs::all(options.networks, random);
+    let mut counts = Counts::default();
     for (position, input) in inputs.iter().enumerate() {
-        let expected = lay(&input.bytes, options.parts);
-        let way = if position % 2 == 0 { Way::Stdin } else { Way::File };
-        let run = run(&options.lay, &input.bytes, way, &scratch)
-            .map_err(|error| format!("{}: {error}", options.lay.display()))?;
-        if let Some(what) = difference(&expected, &run) {
-            println!("input {}: {}, given {}", position + 1, input.name, way.name());
-            println!("{what}");
-            scratch.keep(input, &expected, &run).map_err(|error| error.to_string())?;
-            return Ok(ExitCode::FAILURE);
+        for &form in input.forms {
+            let expected = lay(&input.bytes, form);
+            let words = random.pick(calls(form));
+            let run = run(&options.lay, words, &input.bytes, &scratch)
+                .map_err(|error| format!("{}: {error}", options.lay.display()))?;
+            if let Some(what) = difference(&expected, &run) {
+                println!("input {}: {}, as {}", position + 1, input.name, call_text(words));
+                println!("{what}");
+                scratch.keep(input, &expected, &run).map_err(|error| error.to_string())?;
+                return Ok(ExitCode::FAILURE);
+            }
+            counts.add(form, &expected);
         }
-        *counts.entry(expected.err().map(|fault| fault.number())).or_insert(0) += 1;
     }
-    println!("{}", summary(&counts));
+    println!("plans: {}", counts.text(Form::Plan));
+    println!("summaries: {}", counts.text(Form::Summary));
     println!("compare: {} inputs, all the same", inputs.len());
     Ok(ExitCode::SUCCESS)
 }
 
-/// How many inputs were accepted, and refused with each fault.
-fn summary(counts: &BTreeMap<Option<u8>, usize>) -> String {
-    let count = |(answer, count): (&Option<u8>, &usize)| match answer {
-        None => format!("accepted {count}"),
-        Some(number) => format!("fault {number} {count}"),
-    };
-    format!("answers: {}", counts.iter().map(count).collect::<Vec<_>>().join(", "))
-}
+/// How many inputs were accepted (`None`) and refused with each fault.
+#[derive(Default)]
+struct Counts(BTreeMap<(Form, Option<u8>), usize>);
 
-/// How a program gets its input.
-#[derive(Clone, Copy)]
-enum Way {
-    Stdin,
-    File,
-}
+impl Counts {
+    fn add(&mut self, form: Form, answer: &Answer) {
+        let number = answer.as_ref().err().map(Fault::number);
+        *self.0.entry((form, number)).or_default() += 1;
+    }
 
-impl Way {
-    fn name(self) -> &'static str {
-        match self {
-            Way::Stdin => "on standard input",
-            Way::File => "as a file",
-        }
+    fn text(&self, form: Form) -> String {
+        let counts = self.0.iter().filter(|((counted, _), _)| *counted == form);
+        let texts = counts.map(|((_, number), count)| match number {
+            None => format!("accepted {count}"),
+            Some(number) => format!("fault {number} {count}"),
+        });
+        texts.collect::<Vec<_>>().join(", ")
     }
 }
 
-fn run(program: &Path, bytes: &[u8], way: Way, scratch: &Scratch) -> io::Result<Run> {
+/// The arguments of a program, in which `FILE` stands for a file with the input.
+type Words = &'static [&'static str];
+
+/// The ways in which a program can be called.
+fn calls(form: Form) -> &'static [Words] {
+    match form {
+        Form::Plan => &[&[], &["FILE"]],
+        Form::Summary => &[&["--summary"], &["--summary", "FILE"], &["FILE", "--summary"]],
+    }
+}
+
+fn call_text(words: Words) -> String {
+    let call = [&["lay"], words].concat().join(" ");
+    if words.contains(&"FILE") {
+        call
+    } else {
+        call + " < FILE"
+    }
+}
+
+fn run(program: &Path, words: Words, bytes: &[u8], scratch: &Scratch) -> io::Result<Run> {
+    let file = scratch.path.join("input.links");
     let mut command = Command::new(program);
-    command.stdout(Stdio::piped()).stderr(Stdio::piped());
-    let output = match way {
-        Way::File => {
-            let file = scratch.write("input.links", bytes)?;
-            command.arg(file).stdin(Stdio::null()).output()?
-        }
-        Way::Stdin => {
-            let mut child = command.stdin(Stdio::piped()).spawn()?;
-            let stdin = child.stdin.take();
-            std::thread::scope(|scope| {
-                // A program may end before it has read everything, so that a
-                // failed write says nothing.
-                scope.spawn(move || stdin.map(|mut pipe| pipe.write_all(bytes)));
-                child.wait_with_output()
-            })?
-        }
+    for &word in words {
+        command.arg(if word == "FILE" { file.as_os_str() } else { word.as_ref() });
+    }
+    let output = if words.contains(&"FILE") {
+        fs::write(&file, bytes)?;
+        command.stdin(Stdio::null()).output()?
+    } else {
+        run_piped(command, bytes)?
     };
     Ok(Run { status: output.status.code(), stdout: output.stdout, stderr: output.stderr })
+}
+
+/// Runs a program with the bytes on standard input.
+fn run_piped(mut command: Command, bytes: &[u8]) -> io::Result<Output> {
+    command.stdin(Stdio::piped()).stdout(Stdio::piped()).stderr(Stdio::piped());
+    let mut child = command.spawn()?;
+    let stdin = child.stdin.take();
+    std::thread::scope(|scope| {
+        // A program may end before it has read everything, so that a failed
+        // write says nothing.
+        scope.spawn(move || stdin.map(|mut pipe| pipe.write_all(bytes)));
+        child.wait_with_output()
+    })
 }
 
 /// A directory of this process for inputs and, after a difference, outputs.

@@ -15,39 +15,51 @@ fn script(directory: &Path, body: &str) -> PathBuf {
     path
 }
 
-fn compare(program: &Path, options: &[&str]) -> Output {
+fn compare(program: &Path) -> Output {
     let mut command = Command::new(env!("CARGO_BIN_EXE_compare"));
     command.arg("--lay").arg(program).args(["--seed", "1", "--networks", "30"]);
-    command.args(options).env("TMPDIR", program.parent().unwrap()).output().unwrap()
+    command.env("TMPDIR", program.parent().unwrap()).output().unwrap()
 }
 
 #[test]
 fn wrong_programs_are_found_out() {
-    let cases: &[(&str, &[&str], &str)] = &[
-        ("says nothing", &[], "exit 0"),
-        ("leaves out the last line", &[], "$lay $1 | sed '$d'"),
-        ("prints detours unasked", &[], "$lay --detours $1"),
-        ("leaves out the detours", &["--detours"], "$lay $1"),
-        ("calls unused what is apart", &["--detours"], "$lay --detours $1 | sed s/apart/unused/"),
-        ("reads only files", &[], "$lay ${1:?no file}"),
-        ("reads only standard input", &[], "$lay"),
-        ("fails with status 3", &[], "$lay $1 || exit 3"),
-        ("ends with status 0", &[], "$lay $1; exit 0"),
+    // A case: name, script, and what the call is like that finds it out.
+    let cases = [
+        ("says nothing", "exit 0", ""),
+        ("leaves out the last line", "$lay $* | sed '$d'", ""),
+        ("leaves out the detours", "$lay $* | sed '/^detours/,$d'", ""),
+        ("calls unused what is apart", "$lay $* | sed s/apart/unused/", ""),
+        ("reads only files", "case $* in */*) $lay $* ;; esac", "< FILE"),
+        ("reads only standard input", "case $* in */*) ;; *) $lay $* ;; esac", ""),
+        ("fails with status 3", "$lay $* || exit 3", ""),
+        ("ends with status 0", "$lay $*; exit 0", ""),
         (
             "mixes up faults 2 and 3",
-            &[],
-            "$lay $1 2>$0.err || { sed s/t.3/t.2/ $0.err >&2; exit 1; }",
+            "$lay $* 2>$0.err || { sed s/t.3/t.2/ $0.err >&2; exit 1; }",
+            "",
         ),
-        ("says a fault twice", &[], "$lay $1 || { $lay $1; exit 1; }"),
-        ("reads a part of the input", &[], "cat $1 | head -c 8068 | $lay"),
+        ("says a fault twice", "$lay $* || { $lay $*; exit 1; }", ""),
+        (
+            "reads a part of the input",
+            "case $* in *--summary*) $lay $* ;; *) cat $1 | head -c 8068 | $lay ;; esac",
+            "",
+        ),
+        ("has no summary", "case $1 in --*) shift ;; esac; $lay $1", "--summary"),
+        ("takes the option alone", "case $* in *' '*) ;; *) $lay $* ;; esac", "--summary"),
+        ("takes the option first", "case $* in *' --'*) ;; *) $lay $* ;; esac", "FILE --summary"),
+        ("takes the option last", "case $* in --*' '*) ;; *) $lay $* ;; esac", "--summary FILE"),
+        ("repairs one less", "$lay $* | sed 's/^repaired 4032/repaired 4031/'", "--summary"),
+        ("cuts nobody off", "$lay $* | sed 's/^cut off [0-9].*/cut off none/'", "--summary"),
+        ("goes no detour", "$lay $* | sed 's/^longest [0-9].*/longest none/'", "--summary"),
     ];
     let directory = std::env::temp_dir().join(format!("compare-test-{}", std::process::id()));
     fs::create_dir_all(&directory).unwrap();
-    for (name, options, body) in cases {
-        let output = compare(&script(&directory, body), options);
+    for (name, body, call) in cases {
+        let output = compare(&script(&directory, body));
         let text = String::from_utf8_lossy(&output.stdout);
         assert_eq!(output.status.code(), Some(1), "{name}: {text}");
         assert!(text.contains("input in hex:"), "{name}: {text}");
+        assert!(text.contains(call), "{name}: {text}");
     }
     fs::remove_dir_all(&directory).unwrap();
 }

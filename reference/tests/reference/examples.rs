@@ -1,9 +1,6 @@
 //! The example networks.
 
-use crate::support::{topology, without};
-use reference::adjacency::Adjacency;
-use reference::distances::Distances;
-use reference::node::NodeId;
+use crate::support::{is_connected, topology, without};
 use reference::topology::Topology;
 use reference::wire::parse;
 
@@ -11,11 +8,6 @@ fn example(name: &str) -> Topology {
     let path = format!("{}/../examples/{name}", env!("CARGO_MANIFEST_DIR"));
     let list = std::fs::read(&path).unwrap_or_else(|error| panic!("{path}: {error}"));
     parse(&list).unwrap_or_else(|fault| panic!("{path}: {fault}"))
-}
-
-fn is_connected(network: &Topology) -> bool {
-    let distances = Distances::to(NodeId(0), &Adjacency::of(network));
-    network.nodes().all(|node| distances.distance(node).is_some())
 }
 
 #[test]

@@ -3,8 +3,10 @@
 mod answer;
 mod compare;
 mod examples;
+mod generate;
 mod lay;
 mod repairs;
 mod routes;
+mod summary;
 mod support;
 mod wire;

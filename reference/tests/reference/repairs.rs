@@ -7,9 +7,13 @@ use reference::repairs::{protections, Protection, Repair};
 use reference::routes::Routes;
 use reference::topology::{Link, Topology};
 
-fn repaired(sender: u8, p: u8, q: u8) -> Protection {
-    let repair = Repair { p: NodeId(p), q: NodeId(q) };
+fn repaired(sender: u8, p: u8, q: u8, cost: u32) -> Protection {
+    let repair = Repair { p: NodeId(p), q: NodeId(q), cost };
     Protection::Repaired { sender: NodeId(sender), repair }
+}
+
+fn apart(sender: u8) -> Protection {
+    Protection::Apart { sender: NodeId(sender) }
 }
 
 fn link(network: &Topology, lower: u8, higher: u8) -> Link {
@@ -25,14 +29,14 @@ fn worked_cases() {
     // The path round the link 0-1 is 0, 2, 3, 4, 1, and each of its hops serves.
     let chain = topology(5, &[(0, 1, 3), (0, 2, 1), (1, 4, 1), (2, 3, 1), (3, 4, 1)]);
     let cases = [
-        ("ring, a neighbour", &ring, (0, 1), 1, repaired(0, 3, 2)),
-        ("ring, one of two equals", &ring, (0, 1), 2, repaired(0, 3, 2)),
-        ("ring, the other end sends", &ring, (0, 1), 3, repaired(1, 2, 3)),
+        ("ring, a neighbour", &ring, (0, 1), 1, repaired(0, 3, 2, 3)),
+        ("ring, one of two equals", &ring, (0, 1), 2, repaired(0, 3, 2, 2)),
+        ("ring, the other end sends", &ring, (0, 1), 3, repaired(1, 2, 3, 2)),
         ("ring, nobody sends", &ring, (0, 3), 2, Protection::Unused),
-        ("triangle", &triangle, (0, 1), 1, repaired(0, 2, 1)),
-        ("pair, one way", &pair, (0, 1), 1, Protection::Apart),
-        ("pair, the other way", &pair, (0, 1), 0, Protection::Apart),
-        ("the last that serves", &chain, (0, 1), 1, repaired(0, 4, 1)),
+        ("triangle", &triangle, (0, 1), 1, repaired(0, 2, 1, 2)),
+        ("pair, one way", &pair, (0, 1), 1, apart(0)),
+        ("pair, the other way", &pair, (0, 1), 0, apart(1)),
+        ("the last that serves", &chain, (0, 1), 1, repaired(0, 4, 1, 4)),
     ];
     for (name, network, (lower, higher), destination, protection) in cases {
         let adjacency = Adjacency::of(network);
@@ -80,9 +84,12 @@ fn by_definition(network: &Network, failed: Link, destination: NodeId) -> Protec
         return Protection::Unused;
     };
     let rest = Network::new(without(&network.topology, failed));
-    let mut last = Protection::Apart;
+    let Some(cost) = rest.routes.distance(sender, destination) else {
+        return Protection::Apart { sender };
+    };
+    let mut last = Protection::Apart { sender };
     for hop in rest.path(sender, destination).windows(2) {
-        let repair = Repair { p: hop[0], q: hop[1] };
+        let repair = Repair { p: hop[0], q: hop[1], cost };
         let uses = goes_over(&network.path(sender, repair.p), failed)
             || goes_over(&network.path(repair.q, destination), failed);
         if !uses {
@@ -120,18 +127,18 @@ fn a_repair_costs_what_the_path_without_the_link_costs() {
             for (destination, found) in topology.nodes().zip(found) {
                 match found {
                     Protection::Unused => {}
-                    Protection::Apart => {
-                        let left = failed.ends().map(|end| rest.distance(end, destination));
-                        assert!(left.contains(&None), "{failed} for {destination}");
+                    Protection::Apart { sender } => {
+                        let left = rest.distance(sender, destination);
+                        assert_eq!(left, None, "{failed} for {destination}");
                     }
-                    Protection::Repaired { sender, repair: Repair { p, q } } => {
-                        let cost = [
+                    Protection::Repaired { sender, repair: Repair { p, q, cost } } => {
+                        let parts = [
                             routes.distance(sender, p),
                             Some(adjacency.cost(p, q)),
                             routes.distance(q, destination),
                         ];
-                        let left = rest.distance(sender, destination);
-                        assert_eq!(cost.into_iter().sum::<Option<u32>>(), left);
+                        assert_eq!(parts.into_iter().sum::<Option<u32>>(), Some(cost));
+                        assert_eq!(rest.distance(sender, destination), Some(cost));
                     }
                 }
             }

@@ -1,5 +1,7 @@
 //! Networks for tests.
 
+use reference::adjacency::Adjacency;
+use reference::distances::Distances;
 use reference::generate::{self, Costs, Shape};
 use reference::node::NodeId;
 use reference::random::Random;
@@ -21,6 +23,11 @@ pub fn without(network: &Topology, failed: Link) -> Topology {
         rest.push(link).unwrap();
     }
     rest
+}
+
+pub fn is_connected(network: &Topology) -> bool {
+    let distances = Distances::to(NodeId(0), &Adjacency::of(network));
+    network.nodes().all(|node| distances.distance(node).is_some())
 }
 
 /// Some networks of each shape with each range of costs.

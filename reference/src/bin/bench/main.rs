@@ -2,16 +2,18 @@
 
 mod processor_time;
 
+use reference::wire;
+use std::fs;
 use std::io;
 use std::path::Path;
 use std::process::{Command, ExitCode, Stdio};
 use std::time::{Duration, Instant};
 
 const HELP: &str = "\
-usage: bench --lay PATH --reference PATH [--rounds N] FILE.. [-- ARGUMENT..]
+usage: bench --lay PATH --reference PATH [--rounds N] FILE..
 
-Runs `LAY FILE` and `REFERENCE lay FILE ARGUMENT..` in turn, N times each (200),
-and prints the median and the least time of a run.
+Runs `LAY FILE` and `REFERENCE lay FILE` in turn, N times each (200), and prints
+the median and the least time of a run.
 ";
 
 struct Options {
@@ -19,8 +21,6 @@ struct Options {
     reference: String,
     rounds: usize,
     files: Vec<String>,
-    /// Arguments for the reference alone.
-    arguments: Vec<String>,
 }
 
 impl Options {
@@ -29,7 +29,7 @@ impl Options {
         let mut lay = Command::new(&self.lay);
         lay.arg(file);
         let mut reference = Command::new(&self.reference);
-        reference.arg("lay").arg(file).args(&self.arguments);
+        reference.arg("lay").arg(file);
         [lay, reference]
     }
 }
@@ -61,7 +61,6 @@ fn parse(arguments: Vec<String>) -> Result<Options, String> {
             "--lay" => lay = Some(value()?),
             "--reference" => reference = Some(value()?),
             "--rounds" => rounds = positive(&value()?)?,
-            "--" => break,
             _ if word.starts_with("--") => return Err(format!("unknown option {word}")),
             _ => files.push(word),
         }
@@ -71,7 +70,6 @@ fn parse(arguments: Vec<String>) -> Result<Options, String> {
         reference: reference.ok_or("--reference PATH is missing; see --help")?,
         rounds,
         files,
-        arguments: words.collect(),
     })
 }
 
@@ -83,17 +81,36 @@ fn positive(word: &str) -> Result<usize, String> {
 }
 
 fn bench(options: &Options) -> Result<(), String> {
+    let mut networks = Vec::new();
     for file in &options.files {
+        let network = Network::read(file).map_err(|why| format!("{file}: {why}"))?;
         check_same_output(options.commands(file)).map_err(|why| format!("{file}: {why}"))?;
+        networks.push((file, network));
     }
     print_heading(options.rounds);
-    for file in &options.files {
+    for (file, network) in &networks {
         let samples = measure(options.commands(file), options.rounds)
             .map_err(|error| format!("{file}: {error}"))?;
-        print_row(file, "processor", &samples, |sample| sample.processor);
-        print_row(file, "wall", &samples, |sample| sample.wall);
+        print_row(network, "processor", &samples, |sample| sample.processor);
+        print_row(network, "wall", &samples, |sample| sample.wall);
     }
     Ok(())
+}
+
+/// What the table says of a network.
+struct Network {
+    name: String,
+    nodes: u8,
+    links: usize,
+}
+
+impl Network {
+    fn read(file: &str) -> Result<Network, String> {
+        let list = fs::read(file).map_err(|error| error.to_string())?;
+        let topology = wire::parse(&list).map_err(|fault| fault.to_string())?;
+        let name = Path::new(file).file_stem().unwrap_or_default().to_string_lossy().into_owned();
+        Ok(Network { name, nodes: topology.node_count(), links: topology.links().len() })
+    }
 }
 
 /// The times of two programs say something only if they do the same.
@@ -158,18 +175,17 @@ fn print_heading(rounds: usize) {
     println!("Milliseconds of one run, start-up included; {rounds} runs of each program, in turn.");
     println!("processor: user and system time of the process. ratio: lay / reference.");
     println!();
-    println!("{:26}{:>18}{:>18}{:>18}", "", "lay", "reference", "ratio");
+    println!("{:36}{:>18}{:>18}{:>18}", "", "lay", "reference", "ratio");
     let columns = ["median", "least"].map(|name| format!("{name:>9}")).concat().repeat(3);
-    println!("{:16}{:10}{columns}", "network", "time");
+    println!("{:12}{:>6}{:>7}  {:9}{columns}", "network", "nodes", "links", "time");
 }
 
 fn print_row(
-    file: &str,
-    name: &str,
+    Network { name, nodes, links }: &Network,
+    kind: &str,
     [lay, reference]: &[Vec<Sample>; 2],
     time: fn(&Sample) -> Duration,
 ) {
-    let network = Path::new(file).file_stem().unwrap_or_default().to_string_lossy();
     let (lay, reference) = (Summary::of(lay, time), Summary::of(reference, time));
     let columns = [
         lay.median,
@@ -180,5 +196,5 @@ fn print_row(
         lay.least / reference.least,
     ];
     let columns = columns.map(|value| format!("{value:9.2}")).concat();
-    println!("{network:16}{name:10}{columns}");
+    println!("{name:12}{nodes:6}{links:7}  {kind:9}{columns}");
 }
