@@ -17,7 +17,7 @@ use routes::routes::Routes;
 use std::alloc::Global;
 
 mod detours;
-pub mod tables;
+mod tables;
 mod text;
 
 // The whole plan of a network.
