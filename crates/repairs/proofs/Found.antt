@@ -1,6 +1,6 @@
 -- What is found along the post-convergence path, and what it says of the entry. Assumes nothing.
-use mathlib.Core.Path.{_≡_, refl, sym, ap, _∙_}
-use mathlib.Core.Bool.{true, false, cond, _&&_}
+use mathlib.Core.Path.{_≡_, sym, ap, _∙_}
+use mathlib.Core.Bool.{true, false, cond}
 use mathlib.Core.List.{List}
 use mathlib.Core.Logic.{inl, inr}
 use Prim.Native.Nat.{ℕ, _+_, _*_, _<_, _≤_}
@@ -9,16 +9,17 @@ use lib.Dec.{eqb}
 use lib.ListN.{length, getD, set}
 use Rattle.std.specs.declared.option.Option.{Option}
 use Rattle.std.specs.declared.option.Option.the-variants.{Some, None}
-use Rattle.std.proofs.shelf.Tests.{eqb-true, eqb-false, eq-eqb, cases-eq, cases-bool, and-from, or-left, cond-true, cond-false}
+use Rattle.std.proofs.shelf.Tests.{eqb-true, eqb-false, cases-eq, cases-bool, cond-true, cond-false}
 use Rattle.std.proofs.shelf.Lists.{getD-set-same, getD-set-other}
 use borrow.Rule.Slice.PartMut.{putMid}
 use Rattle.routes.proofs.Rows.{put-below, put-in, put-above}
+use Rattle.repairs.proofs.Right.{own-link, right}
 use Rattle.repairs.specs.Table.{RowLaid, LinkLaid}
 use Rattle.repairs.specs.Entries.{meaning}
 use Rattle.routes.specs.Costs.{linkCost}
 use Rattle.theory.specs.Repair.{via, later, repair, sends, lastReached, laidBy, laid, Repair, Unused}
 use Rattle.theory.specs.NextHop.{nextHop, path}
-use Rattle.theory.specs.Network.{joins, without, Network, Lawful}
+use Rattle.theory.specs.Network.{without, Network, Lawful}
 use Rattle.theory.proofs.Reached.{reached}
 use Rattle.theory.proofs.NextHops.{same-eq}
 use Rattle.theory.proofs.HopPaths.{path-stop, path-to}
@@ -48,9 +49,6 @@ pub along-here : (z y : Network) → Lawful y → (s f d w q : ℕ) → Some q �
 along-here z y g s f d w q e h t =
     sym (along-step z y g s f d w q e ∙ (ap (λ o. later o (cond (sends z s f w) None (via w q))) (sym h) ∙ cond-false (sends z s f w) None (via w q) t))
 
-own-link : (s f : ℕ) → joins (record { a = s; b = f }) s f ≡ true
-own-link s f = or-left (eqb s s && eqb f f) (eqb s f && eqb f s) (and-from (eqb s s) (eqb f f) (eq-eqb s s refl) (eq-eqb f f refl))
-
 -- what was found is what is laid up
 pub laid-found : (z y : Network) → Lawful z → (s f d : ℕ) → y ≡ without (record { a = s; b = f }) z → sends z s f d ≡ true → (o : Option Repair) → o ≡ lastReached z s f s (path y d s) → laidBy o ≡ laid z s f d
 laid-found z y g s f d e t o h =
@@ -78,11 +76,14 @@ row-more z s f k row e l h p d q = elim (cases-eq d k) [
 ]
 
 -- a row within a table
-pub link-laid : (z : Network) (s f k : ℕ) (old row : List Entry) → f < 64 → z .n ≤ 64 → length old ≡ 4096 → length row ≡ k → k ≡ z .n → RowLaid z s f (z .n) row → LinkLaid z s f old (putMid (f * 64) k old row)
-link-laid z s f k old row l few len size e h = record {
-  row = λ d p. ap meaning (put-in (f * 64) k old row d entries.Unused (omega arith) (omega arith)) ∙ h d p;
-  rest = λ i p. elim p [
-    | inl q ↦ put-below (f * 64) k old row i entries.Unused (omega arith) q
-    | inr q ↦ put-above (f * 64) k old row i entries.Unused (omega arith) size (omega arith)
-  ];
-}
+pub link-laid : (z : Network) → Lawful z → (s f k : ℕ) (old row : List Entry) → f < 64 → z .n ≤ 64 → length old ≡ 4096 → length row ≡ k → k ≡ z .n → RowLaid z s f (z .n) row → LinkLaid z s f old (putMid (f * 64) k old row)
+link-laid z g s f k old row l few len size e h =
+    let here = λ (d : ℕ) (p : d < z .n). ap meaning (put-in (f * 64) k old row d entries.Unused (omega arith) (omega arith)) ∙ h d p in
+    record {
+      row = here;
+      right = λ d p. right z g s f d (getD (putMid (f * 64) k old row) (f * 64 + d) entries.Unused) (here d p);
+      rest = λ i p. elim p [
+        | inl q ↦ put-below (f * 64) k old row i entries.Unused (omega arith) q
+        | inr q ↦ put-above (f * 64) k old row i entries.Unused (omega arith) size (omega arith)
+      ];
+    }
