@@ -1,6 +1,8 @@
-//! What a `lay` program did with an input, held against what it should do.
+//! What a `lay` or `tear` program did with an input, held against what it should
+//! do.
 
 use crate::fault::Fault;
+use crate::tear::Played;
 
 /// What a program should print, or why it should refuse its input.
 pub type Answer = Result<Vec<u8>, Fault>;
@@ -21,6 +23,24 @@ pub fn difference(expected: &Answer, run: &Run) -> Option<String> {
     }
 }
 
+/// As [`difference`], of a script that is played.
+pub fn tear_difference(expected: &Result<Played, Fault>, run: &Run) -> Option<String> {
+    match expected {
+        Err(fault) => difference_refused(fault, run),
+        Ok(Played { text, end: Ok(()) }) => difference_accepted(text.as_bytes(), run),
+        Ok(Played { text, end: Err(bad) }) => difference_stopped(text, bad.number, run),
+    }
+}
+
+/// What was printed before a bad line stays printed.
+fn difference_stopped(text: &str, line: usize, run: &Run) -> Option<String> {
+    if run.status != Some(1) {
+        return Some(format!("status {}, expected 1 (line {line})", status_text(run)));
+    }
+    first_line_apart(text.as_bytes(), &run.stdout)
+        .or_else(|| difference_of_complaint(&format!("line {line}: "), run))
+}
+
 fn difference_accepted(text: &[u8], run: &Run) -> Option<String> {
     if run.status != Some(0) {
         return Some(format!("status {}, expected 0", status_text(run)));
@@ -39,12 +59,15 @@ fn difference_refused(fault: &Fault, run: &Run) -> Option<String> {
     if !run.stdout.is_empty() {
         return Some(format!("fault {number}, but something is on standard output"));
     }
+    difference_of_complaint(&format!("fault {number}: "), run)
+}
+
+/// Standard error is to be one line with this beginning.
+fn difference_of_complaint(start: &str, run: &Run) -> Option<String> {
     let one_line = run.stderr.iter().filter(|&&byte| byte == b'\n').count() == 1
         && run.stderr.ends_with(b"\n");
-    if !one_line || !run.stderr.starts_with(format!("fault {number}: ").as_bytes()) {
-        return Some(format!("standard error is not one line beginning `fault {number}: `"));
-    }
-    None
+    let right = one_line && run.stderr.starts_with(start.as_bytes());
+    (!right).then(|| format!("standard error is not one line beginning `{start}`"))
 }
 
 fn status_text(run: &Run) -> String {

@@ -1,7 +1,9 @@
-//! `reference`: prints what the proved `lay` prints, and makes networks.
+//! `reference`: prints what the proved `lay` and `tear` print, and makes networks.
 
 use reference::lay::{lay, Form};
 use reference::node::MAX_NODES;
+use reference::script::BadLine;
+use reference::tear::tear;
 use reference::{generate, wire};
 use std::fmt::Display;
 use std::io::{self, Read, Write};
@@ -11,12 +13,24 @@ use std::str::FromStr;
 
 const HELP: &str = "\
 usage: reference lay [--summary] [FILE]
+       reference tear LINKS [SCRIPT]
        reference dense NODES
        reference sparse NODES LINKS
 
 lay     reads a list of links in bytes (standard input where no file is named)
         and prints distances, next-hop tables and repairs; with --summary, what
         the failures of single links mean
+tear    reads a list of links in bytes and plays the network by a script
+        (standard input where none is named); its lines:
+            close A B            the link fails
+            words                the messages under way
+            deliver K | all      message K arrives, or all do
+            again K              message K arrives and stays under way
+            over U D | all       router U switches for D, or all that may do
+            send S D [SEGMENT..] a packet goes from S to D; a segment is X or A-B
+            put S D [SEGMENT..]  a packet waits at S
+            hop P | run P        packet P is handled once, or to its end
+            state                what each router knows
 dense   writes in bytes the list of all links between NODES nodes
 sparse  writes in bytes a list of LINKS links between NODES nodes: a ring, and
         chords across it
@@ -26,6 +40,8 @@ sparse  writes in bytes a list of LINKS links between NODES nodes: a ring, and
 enum Failure {
     /// The list of links is refused.
     Refused(reference::fault::Fault),
+    /// A line of a script can't be played.
+    Line(BadLine),
     /// The arguments, a file or the output; a line that says why.
     Other(String),
 }
@@ -36,6 +52,10 @@ fn main() -> ExitCode {
         Ok(()) => ExitCode::SUCCESS,
         Err(Failure::Refused(fault)) => {
             eprintln!("{fault}");
+            ExitCode::from(1)
+        }
+        Err(Failure::Line(bad)) => {
+            eprintln!("{bad}");
             ExitCode::from(1)
         }
         Err(Failure::Other(why)) => {
@@ -50,6 +70,8 @@ fn run(arguments: &[String]) -> Result<(), Failure> {
     match words[..] {
         ["--help"] => write(HELP.as_bytes()),
         ["lay", ref rest @ ..] => run_lay(rest),
+        ["tear", links] => run_tear(links, None),
+        ["tear", links, script] => run_tear(links, Some(script)),
         ["dense", nodes] => run_dense(nodes),
         ["sparse", nodes, links] => run_sparse(nodes, links),
         _ => Err(Failure::Other("unknown arguments; see --help".into())),
@@ -72,6 +94,13 @@ fn run_lay(words: &[&str]) -> Result<(), Failure> {
     let list = read(file)?;
     let text = lay(&list, form).map_err(Failure::Refused)?;
     write(&text)
+}
+
+fn run_tear(links: &str, script: Option<&str>) -> Result<(), Failure> {
+    let topology = wire::parse(&read(Some(links))?).map_err(Failure::Refused)?;
+    let played = tear(topology, &read(script)?);
+    write(played.text.as_bytes())?;
+    played.end.map_err(Failure::Line)
 }
 
 fn run_dense(nodes: &str) -> Result<(), Failure> {

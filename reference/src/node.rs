@@ -46,9 +46,21 @@ impl NodeSet {
         self.0 >> node.0 & 1 == 1
     }
 
+    pub fn is_empty(self) -> bool {
+        self.0 == 0
+    }
+
     /// The nodes of this set that are not in `other`.
     pub fn minus(self, other: NodeSet) -> NodeSet {
         NodeSet(self.0 & !other.0)
+    }
+}
+
+impl FromIterator<NodeId> for NodeSet {
+    fn from_iter<I: IntoIterator<Item = NodeId>>(nodes: I) -> NodeSet {
+        let mut set = NodeSet::EMPTY;
+        nodes.into_iter().for_each(|node| set.insert(node));
+        set
     }
 }
 

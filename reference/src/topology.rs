@@ -73,6 +73,17 @@ impl Topology {
         Ok(())
     }
 
+    /// The network after the link has failed.
+    pub fn without(&self, failed: Link) -> Topology {
+        let left = self.links.iter().filter(|link| **link != failed);
+        Topology { nodes: self.nodes, links: left.copied().collect() }
+    }
+
+    /// The link between two nodes, named in either order.
+    pub fn link(&self, a: NodeId, b: NodeId) -> Option<Link> {
+        self.links.iter().find(|link| link.joins(a, b)).copied()
+    }
+
     pub fn node_count(&self) -> u8 {
         self.nodes
     }

@@ -1,12 +1,14 @@
-//! `compare`: runs a `lay` program on many inputs and holds each answer against
-//! the reference.
+//! `compare`: runs a `lay` or a `tear` program on many inputs and holds each
+//! answer against the reference.
 
-use reference::answer::{difference, Answer, Run};
+use reference::answer::{difference, tear_difference, Answer, Run};
 use reference::fault::Fault;
 use reference::inputs::{self, Input};
 use reference::lay::{lay, Form};
 use reference::random::Random;
-use reference::wire::PIECE;
+use reference::scripts::{self, Script};
+use reference::tear::{tear, Played};
+use reference::wire::{self, PIECE};
 use std::collections::BTreeMap;
 use std::fs;
 use std::io::{self, Write};
@@ -15,19 +17,23 @@ use std::process::{Command, ExitCode, Output, Stdio};
 use std::time::SystemTime;
 
 const HELP: &str = "\
-usage: compare --lay PATH [--seed N] [--networks N]
+usage: compare [--lay PATH] [--tear PATH] [--seed N] [--networks N] [--scripts N]
 
---lay       the program to be compared with the reference
+--lay       a lay program to be compared with the reference
+--tear      a tear program to be compared with the reference
 --seed      the seed of the random inputs (from the clock where none is given)
---networks  the number of random lawful networks (300)
+--networks  the number of random lawful networks for lay (300)
+--scripts   the number of random scripts for tear (300)
 
 The plans of all inputs are compared, and the summaries of some.
 ";
 
 struct Options {
-    lay: PathBuf,
+    lay: Option<PathBuf>,
+    tear: Option<PathBuf>,
     seed: u64,
     networks: usize,
+    scripts: usize,
 }
 
 fn main() -> ExitCode {
@@ -46,21 +52,24 @@ fn main() -> ExitCode {
 }
 
 fn parse(arguments: Vec<String>) -> Result<Options, String> {
-    let mut program = None;
-    let mut seed = None;
-    let mut networks = 300;
+    let seed = clock_seed();
+    let mut options = Options { lay: None, tear: None, seed, networks: 300, scripts: 300 };
     let mut words = arguments.into_iter();
     while let Some(word) = words.next() {
         let mut value = || words.next().ok_or(format!("{word} needs a value"));
         match word.as_str() {
-            "--lay" => program = Some(PathBuf::from(value()?)),
-            "--seed" => seed = Some(number(&value()?)?),
-            "--networks" => networks = number(&value()?)? as usize,
+            "--lay" => options.lay = Some(PathBuf::from(value()?)),
+            "--tear" => options.tear = Some(PathBuf::from(value()?)),
+            "--seed" => options.seed = number(&value()?)?,
+            "--networks" => options.networks = number(&value()?)? as usize,
+            "--scripts" => options.scripts = number(&value()?)? as usize,
             _ => return Err(format!("unknown argument {word}; see --help")),
         }
     }
-    let lay = program.ok_or("--lay PATH is missing; see --help")?;
-    Ok(Options { lay, seed: seed.unwrap_or_else(clock_seed), networks })
+    if options.lay.is_none() && options.tear.is_none() {
+        return Err("--lay PATH or --tear PATH is missing; see --help".into());
+    }
+    Ok(options)
 }
 
 fn number(word: &str) -> Result<u64, String> {
@@ -75,6 +84,22 @@ fn clock_seed() -> u64 {
 fn compare(options: &Options) -> Result<ExitCode, String> {
     println!("compare: seed {}", options.seed);
     let mut scratch = Scratch::new().map_err(|error| format!("scratch directory: {error}"))?;
+    let mut same = true;
+    if let Some(program) = &options.lay {
+        same = compare_lay(program, options, &mut scratch).map_err(of_program(program))?;
+    }
+    if let Some(program) = options.tear.as_ref().filter(|_| same) {
+        same = compare_tear(program, options, &mut scratch).map_err(of_program(program))?;
+    }
+    Ok(if same { ExitCode::SUCCESS } else { ExitCode::FAILURE })
+}
+
+fn of_program(program: &Path) -> impl Fn(io::Error) -> String + '_ {
+    |error| format!("{}: {error}", program.display())
+}
+
+/// Whether all answers are the same.
+fn compare_lay(program: &Path, options: &Options, scratch: &mut Scratch) -> io::Result<bool> {
     let random = &mut Random::new(options.seed);
     let inputs = inputs::all(options.networks, random);
     let mut counts = Counts::default();
@@ -82,13 +107,12 @@ fn compare(options: &Options) -> Result<ExitCode, String> {
         for &form in input.forms {
             let expected = lay(&input.bytes, form);
             let words = random.pick(calls(form));
-            let run = run(&options.lay, words, &input.bytes, &scratch)
-                .map_err(|error| format!("{}: {error}", options.lay.display()))?;
+            let run = run(program, words, &input.bytes, scratch)?;
             if let Some(what) = difference(&expected, &run) {
                 println!("input {}: {}, as {}", position + 1, input.name, call_text(words));
                 println!("{what}");
-                scratch.keep(input, &expected, &run).map_err(|error| error.to_string())?;
-                return Ok(ExitCode::FAILURE);
+                scratch.keep_input(input, &expected, &run)?;
+                return Ok(false);
             }
             counts.add(form, &expected);
         }
@@ -96,7 +120,47 @@ fn compare(options: &Options) -> Result<ExitCode, String> {
     println!("plans: {}", counts.text(Form::Plan));
     println!("summaries: {}", counts.text(Form::Summary));
     println!("compare: {} inputs, all the same", inputs.len());
-    Ok(ExitCode::SUCCESS)
+    Ok(true)
+}
+
+/// Whether all answers are the same. Every second script is on standard input.
+fn compare_tear(program: &Path, options: &Options, scratch: &mut Scratch) -> io::Result<bool> {
+    let scripts = scripts::all(options.scripts, &mut Random::new(options.seed));
+    let mut stopped = 0;
+    for (position, script) in scripts.iter().enumerate() {
+        let expected = wire::parse(&script.links).map(|links| tear(links, script.text.as_bytes()));
+        let piped = position % 2 == 1;
+        let run = run_tear(program, script, piped, scratch)?;
+        if let Some(what) = tear_difference(&expected, &run) {
+            let call = if piped { "tear LINKS < SCRIPT" } else { "tear LINKS SCRIPT" };
+            println!("script {}: {}, as {call}", position + 1, script.name);
+            println!("{what}");
+            scratch.keep_script(&expected, &run)?;
+            return Ok(false);
+        }
+        stopped += usize::from(!matches!(expected, Ok(Played { end: Ok(()), .. })));
+    }
+    println!("scripts: played {}, stopped {stopped}", scripts.len() - stopped);
+    println!("compare: {} scripts, all the same", scripts.len());
+    Ok(true)
+}
+
+fn run_tear(program: &Path, script: &Script, piped: bool, scratch: &Scratch) -> io::Result<Run> {
+    let text = script.text.as_bytes();
+    let links = scratch.write("tear.links", &script.links)?;
+    let file = scratch.write("tear.script", text)?;
+    let mut command = Command::new(program);
+    command.arg(links);
+    let output = if piped {
+        run_piped(command, text)?
+    } else {
+        command.arg(file).stdin(Stdio::null()).output()?
+    };
+    Ok(as_run(output))
+}
+
+fn as_run(output: Output) -> Run {
+    Run { status: output.status.code(), stdout: output.stdout, stderr: output.stderr }
 }
 
 /// How many inputs were accepted (`None`) and refused with each fault.
@@ -151,7 +215,7 @@ fn run(program: &Path, words: Words, bytes: &[u8], scratch: &Scratch) -> io::Res
     } else {
         run_piped(command, bytes)?
     };
-    Ok(Run { status: output.status.code(), stdout: output.stdout, stderr: output.stderr })
+    Ok(as_run(output))
 }
 
 /// Runs a program with the bytes on standard input.
@@ -187,15 +251,30 @@ impl Scratch {
     }
 
     /// Keeps an input with both answers, and prints where.
-    fn keep(&mut self, input: &Input, expected: &Answer, run: &Run) -> io::Result<()> {
-        self.keep = true;
+    fn keep_input(&mut self, input: &Input, expected: &Answer, run: &Run) -> io::Result<()> {
         self.write("input.links", &input.bytes)?;
         let input = self.write("input.hex", hex(&input.bytes).as_bytes())?;
         println!("input in hex:    {}", input.display());
-        let (stdout, stderr) = match expected {
-            Ok(text) => (text.as_slice(), String::new()),
-            Err(fault) => (&[][..], format!("{fault}\n")),
-        };
+        match expected {
+            Ok(text) => self.keep_answers(text, "", run),
+            Err(fault) => self.keep_answers(&[], &format!("{fault}\n"), run),
+        }
+    }
+
+    /// Keeps a script, which is written already, with both answers.
+    fn keep_script(&mut self, expected: &Result<Played, Fault>, run: &Run) -> io::Result<()> {
+        println!("links, script:   {}/tear.*", self.path.display());
+        match expected {
+            Err(fault) => self.keep_answers(&[], &format!("{fault}\n"), run),
+            Ok(Played { text, end: Ok(()) }) => self.keep_answers(text.as_bytes(), "", run),
+            Ok(Played { text, end: Err(bad) }) => {
+                self.keep_answers(text.as_bytes(), &format!("{bad}\n"), run)
+            }
+        }
+    }
+
+    fn keep_answers(&mut self, stdout: &[u8], stderr: &str, run: &Run) -> io::Result<()> {
+        self.keep = true;
         let expected = self.write("expected", stdout)?;
         println!("expected output: {}, standard error {stderr:?}", expected.display());
         let found = self.write("found", &run.stdout)?;

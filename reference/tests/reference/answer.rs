@@ -1,7 +1,9 @@
 //! Runs held against what they should be.
 
-use reference::answer::{difference, Run};
+use reference::answer::{difference, tear_difference, Run};
 use reference::fault::Fault;
+use reference::script::BadLine;
+use reference::tear::Played;
 
 #[test]
 fn differences_are_seen() {
@@ -30,6 +32,36 @@ fn differences_are_seen() {
     for (name, expected, status, stdout, stderr, start) in cases {
         let run = Run { status, stdout: stdout.into(), stderr: stderr.into() };
         let found = difference(expected, &run);
+        match (found, start) {
+            (None, None) => {}
+            (Some(found), Some(start)) if found.starts_with(start) => {}
+            (found, _) => panic!("{name}: {found:?}"),
+        }
+    }
+}
+
+#[test]
+fn differences_of_scripts_are_seen() {
+    let bad = BadLine { number: 5, why: "no".into() };
+    let whole = Ok(Played { text: "no words\n".into(), end: Ok(()) });
+    let stopped = Ok(Played { text: "no words\n".into(), end: Err(bad) });
+    let refused = Err(Fault::UnknownKind { kind: 7 });
+    // A case: as above.
+    let cases = [
+        ("the text", &whole, Some(0), "no words\n", "", None),
+        ("another line", &whole, Some(0), "words\n", "", Some("line 1:")),
+        ("status 1", &whole, Some(1), "no words\n", "", Some("status 1")),
+        ("a bad line", &stopped, Some(1), "no words\n", "line 5: other words\n", None),
+        ("another text", &stopped, Some(1), "", "line 5: a\n", Some("line 1:")),
+        ("another number", &stopped, Some(1), "no words\n", "line 51: a\n", Some("standard error")),
+        ("two lines", &stopped, Some(1), "no words\n", "line 5: a\nb\n", Some("standard error")),
+        ("status 0", &stopped, Some(0), "no words\n", "line 5: a\n", Some("status 0")),
+        ("a refusal", &refused, Some(1), "", "fault 1: a\n", None),
+        ("another fault", &refused, Some(1), "", "fault 2: a\n", Some("standard error")),
+    ];
+    for (name, expected, status, stdout, stderr, start) in cases {
+        let run = Run { status, stdout: stdout.into(), stderr: stderr.into() };
+        let found = tear_difference(expected, &run);
         match (found, start) {
             (None, None) => {}
             (Some(found), Some(start)) if found.starts_with(start) => {}

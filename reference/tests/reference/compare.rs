@@ -1,4 +1,4 @@
-//! The `compare` program notices what a `lay` program does wrong.
+//! The `compare` program notices what a `lay` or a `tear` program does wrong.
 
 use std::fs;
 use std::os::unix::fs::PermissionsExt;
@@ -60,6 +60,60 @@ fn wrong_programs_are_found_out() {
         assert_eq!(output.status.code(), Some(1), "{name}: {text}");
         assert!(text.contains("input in hex:"), "{name}: {text}");
         assert!(text.contains(call), "{name}: {text}");
+    }
+    fs::remove_dir_all(&directory).unwrap();
+}
+
+fn compare_tear(directory: &Path, body: &str) -> Output {
+    let path = directory.join("tear");
+    fs::write(&path, format!("#!/bin/sh\ntear='{REFERENCE} tear'\n{body}\n")).unwrap();
+    fs::set_permissions(&path, fs::Permissions::from_mode(0o755)).unwrap();
+    let mut command = Command::new(env!("CARGO_BIN_EXE_compare"));
+    command.arg("--tear").arg(&path).args(["--seed", "1", "--scripts", "60"]);
+    command.env("TMPDIR", directory).output().unwrap()
+}
+
+#[test]
+fn wrong_tear_programs_are_found_out() {
+    // A case: name, script, and whether it is found out.
+    let cases = [
+        ("is right", "$tear $*", false),
+        (
+            "says why in other words",
+            "$tear $* 2>$0.err || { sed 's/: .*/: no/' $0.err >&2; exit 1; }",
+            false,
+        ),
+        ("says nothing", "exit 0", true),
+        ("reads only files", "case $* in *' '*) $tear $* ;; esac", true),
+        ("reads only standard input", "case $* in *' '*) ;; *) $tear $* ;; esac", true),
+        ("ends with status 0", "$tear $*; exit 0", true),
+        ("ends with status 2", "$tear $* || exit 2", true),
+        (
+            "miscounts lines",
+            "$tear $* 2>$0.err || { sed s/line.5/line.4/ $0.err >&2; exit 1; }",
+            true,
+        ),
+        ("says a bad line twice", "$tear $* || { $tear $* >$0.out; exit 1; }", true),
+        ("drops what was printed", "$tear $* >$0.out || exit 1; cat $0.out", true),
+        (
+            "drops by 7 only",
+            "$tear $* >$0.out; s=$?; sed 's/dropped 9/dropped 7/' $0.out; exit $s",
+            true,
+        ),
+        (
+            "refuses by 4 only",
+            "$tear $* >$0.out; s=$?; sed 's/refused 5/refused 4/' $0.out; exit $s",
+            true,
+        ),
+        ("waits for nobody", "$tear $* >$0.out; s=$?; sed '/: waits for/d' $0.out; exit $s", true),
+    ];
+    let directory = std::env::temp_dir().join(format!("compare-tear-{}", std::process::id()));
+    fs::create_dir_all(&directory).unwrap();
+    for (name, body, found_out) in cases {
+        let output = compare_tear(&directory, body);
+        let text = String::from_utf8_lossy(&output.stdout);
+        assert_eq!(output.status.code(), Some(i32::from(found_out)), "{name}: {text}");
+        assert_eq!(text.contains("links, script:"), found_out, "{name}: {text}");
     }
     fs::remove_dir_all(&directory).unwrap();
 }
