@@ -1,8 +1,10 @@
 // What becomes of a packet at one router, in a whole network and beside a failed link.
+use crate::networks::PAIR;
+use crate::networks::RING;
+use crate::networks::read;
 use links::fault::FaultDebug;
 use links::link::LinkId;
 use links::node::NodeId;
-use links::topology::Topology;
 use packets::packet::Packet;
 use packets::segment::Segment;
 use packets::sender::SenderSegments;
@@ -10,10 +12,6 @@ use router::outcome::Outcome;
 use router::router::Router;
 use std::alloc::Global;
 use std::test::*;
-
-const RING: &[u8] = &[1, 4, 0, 4, 0, 1, 0, 1, 0, 3, 0, 1, 1, 2, 0, 1, 2, 3, 0, 1];
-
-const PAIR: &[u8] = &[1, 2, 0, 1, 0, 1, 0, 1];
 
 // At a router, which knows the link 0-1 to be down or not: the neighbour that the packet is sent to and how many
 // segments it then has, or the number of the fault that drops it; neither where it is delivered.
@@ -132,9 +130,7 @@ const CASES: [Case; 9] = [
 ];
 
 fn router_of(heap: Global, case: &Case) -> Result<Router, Fail> {
-    let Ok(topology) = Topology::read(heap, case.bytes) else {
-        return Err(Fail::new("a lawful list is refused"));
-    };
+    let topology = read(heap, case.bytes)?;
     let mut router = Router::new(&topology, NodeId(case.at))?;
     if case.down {
         router.fail(LinkId {

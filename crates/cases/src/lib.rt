@@ -4,6 +4,8 @@ mod forwarding;
 #[cfg(test)]
 mod lists;
 #[cfg(test)]
+mod networks;
+#[cfg(test)]
 mod repaired;
 #[cfg(test)]
 mod ring;

@@ -1,21 +1,18 @@
 // Repairs in small networks in which the link 0-1 fails, and what is refused.
+use crate::networks::PAIR;
+use crate::networks::RING;
+use crate::networks::TRIANGLE;
+use crate::networks::read;
 use links::fault::Fault;
 use links::fault::FaultDebug;
 use links::fault::FaultPartialEq;
 use links::node::NodeId;
-use links::topology::Topology;
 use repairs::laying::lay_link;
 use repairs::laying::lay_row;
 use repairs::repair::Entry;
 use routes::routes::Routes;
 use std::alloc::Global;
 use std::test::*;
-
-const RING: &[u8] = &[1, 4, 0, 4, 0, 1, 0, 1, 0, 3, 0, 1, 1, 2, 0, 1, 2, 3, 0, 1];
-
-const TRIANGLE: &[u8] = &[1, 3, 0, 3, 0, 1, 0, 1, 0, 2, 0, 1, 1, 2, 0, 1];
-
-const PAIR: &[u8] = &[1, 2, 0, 1, 0, 1, 0, 1];
 
 // At the end s of the link 0-1, for the destination d: none where it doesn't send over the link, else p and q.
 struct Case {
@@ -95,10 +92,7 @@ const CASES: [Case; 8] = [
 ];
 
 fn routes_of(heap: Global, bytes: &[u8]) -> Result<Routes, Fail> {
-    match Topology::read(heap, bytes) {
-        Ok(topology) => Ok(Routes::of(&topology)),
-        Err(_) => Err(Fail::new("a lawful list is refused")),
-    }
+    Ok(Routes::of(&read(heap, bytes)?))
 }
 
 #[test]

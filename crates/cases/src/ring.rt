@@ -1,4 +1,6 @@
 // The ring of four with all costs 1: distances, next hops, paths, and what lay prints.
+use crate::networks::RING;
+use crate::networks::read;
 use links::fault::Fault;
 use links::fault::FaultDebug;
 use links::fault::FaultPartialEq;
@@ -13,13 +15,8 @@ use routes::routes::Routes;
 use std::alloc::Global;
 use std::test::*;
 
-const RING: [u8; 20] = [1, 4, 0, 4, 0, 1, 0, 1, 0, 3, 0, 1, 1, 2, 0, 1, 2, 3, 0, 1];
-
 fn ring(heap: Global) -> Result<Topology, Fail> {
-    match Topology::read(heap, &RING) {
-        Ok(topology) => Ok(topology),
-        Err(_) => Err(Fail::new("the ring is refused")),
-    }
+    read(heap, RING)
 }
 
 // From a to d: the distance, the next hop, and whether the path uses the link 0-1.

@@ -1,6 +1,6 @@
 -- What the tables say of the next hop that is used, and of the repair where it lies over the link that is down. Assumes nothing.
 use mathlib.Core.Path.{_≡_, refl, sym, ap, ap₂, _∙_, fun-ext}
-use mathlib.Core.Bool.{Bool, true, false, cond, _&&_, _||_}
+use mathlib.Core.Bool.{Bool, true, false, cond, _&&_}
 use mathlib.Core.List.{List}
 use mathlib.Core.Logic.{inl, inr}
 use Prim.Native.Nat.{ℕ, _<_, _≤_}
@@ -12,14 +12,13 @@ use Rattle.std.proofs.shelf.Tests.{both-ways, eqb-true, eq-eqb, and-parts, and-
 use Rattle.theory.specs.Network.{Network, Lawful, LinkId, joins, without}
 use Rattle.theory.specs.NextHop.{nextHop, path}
 use Rattle.theory.specs.Repair as theory
-use Rattle.theory.proofs.Joins.{joins-ends}
-use Rattle.theory.proofs.NextHops.{next-hop-is}
+use Rattle.theory.proofs.Joins.{or-comm, joins-ends}
+use Rattle.theory.proofs.NextHops.{next-hop-is, eq-same}
 use Rattle.theory.proofs.Paths.{none-some}
 use Rattle.theory.proofs.Reached.{reached}
 use Rattle.theory.proofs.Without.{lawful-without, link-left}
 use Rattle.protocol.specs.Router.{Router, Failure, NoFailure, Down, linksIn, entry}
 use Rattle.protocol.specs.Packet.{Segment, Decision, knownDown, putRepair, repairIn}
-use Rattle.routes.proofs.Rows.{is-same}
 use Rattle.routes.proofs.Steps.{hop-outside}
 use Rattle.repairs.proofs.Right.{own-link}
 use Rattle.repairs.specs.Entries.{repairOf, meaning}
@@ -50,12 +49,6 @@ entry-outside s g aim h = go (s .failure)
         by true = hop-outside (without l (s .links)) (lawful-without l (s .links) g) aim (s .me) (λ k. omega (arith, k .0))
         by false = hop-outside (s .links) g aim (s .me) (λ k. omega (arith, k .0))
 
-or-comm : (a b : Bool) → (a || b) ≡ (b || a)
-or-comm true true = refl
-or-comm true false = refl
-or-comm false true = refl
-or-comm false false = refl
-
 -- a link by its ends in either order
 same-joins : (r : LinkId) (s f x y : ℕ) → joins r s f ≡ true → joins r x y ≡ joins (record { a = s; b = f }) x y
 same-joins r s f x y h = elim (joins-ends r s f h) [
@@ -70,7 +63,7 @@ same-without z r s f h = ap (λ c. record { n = z .n; cost = c }) (fun-ext (λ x
 laid-repair : (z : Network) → Lawful z → (r : LinkId) (s f d : ℕ) → joins r s f ≡ true → nextHop z d s ≡ Some f → theory.laid z s f d ≡ theory.laidBy (theory.repair z r s d)
 laid-repair z g r s f d j h =
     let o : LinkId = record { a = s; b = f } in
-    cond-true (theory.sends z s f d) (theory.laidBy (theory.repair z o s d)) theory.Unused (is-same _ _ h) ∙
+    cond-true (theory.sends z s f d) (theory.laidBy (theory.repair z o s d)) theory.Unused (eq-same _ _ h) ∙
     ap theory.laidBy (sym (reached z g o s f d (own-link s f) h) ∙ (ap (λ y. theory.lastReached z s f s (path y d s)) (sym (same-without z r s f j)) ∙ reached z g r s f d j h))
 
 found-is : (e : Entry) (o : Option theory.Repair) → sameLaid (meaning e) (theory.laidBy o) ≡ true → repairOf (found e) ≡ o

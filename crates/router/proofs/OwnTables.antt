@@ -18,7 +18,7 @@ use Rattle.theory.specs.Repair as theory
 use Rattle.links.specs.declared.node.NodeId.{NodeId}
 use Rattle.links.specs.declared.fault.Fault.{Fault}
 use Rattle.routes.specs.NextHops.{hopOf}
-use Rattle.routes.proofs.Rows.{is-same}
+use Rattle.theory.proofs.NextHops.{eq-same}
 use Rattle.repairs.specs.Table.{LinkLaid, Refused, TableAsked}
 use Rattle.repairs.specs.declared.repair.Entry.{Entry}
 use Rattle.repairs.specs.declared.repair.Entry.the-variants.{Unused}
@@ -27,7 +27,7 @@ use Rattle.router.specs.Tables.{NoneSwitched, OwnHops, OwnRepairs, sameLaid}
 -- one next hop more
 pub own-hops-more : (z : Network) (u k : ℕ) (l : List (Option NodeId)) (h : Option NodeId) → k < length l → OwnHops z u k l → hopOf h ≡ nextHop z k u → OwnHops z u (k + 1) (set l k h)
 own-hops-more z u k l h n old e d p = elim (cases-eq d k) [
-  | inl x ↦ is-same _ _ (ap (λ i. hopOf (getD (set l k h) i None)) x ∙ (ap hopOf (getD-set-same l k h None n) ∙ (e ∙ ap (λ i. nextHop z i u) (sym x))))
+  | inl x ↦ eq-same _ _ (ap (λ i. hopOf (getD (set l k h) i None)) x ∙ (ap hopOf (getD-set-same l k h None n) ∙ (e ∙ ap (λ i. nextHop z i u) (sym x))))
   | inr x ↦ rw (getD-set-other l k d h None x) (old d (omega arith))
 ]
 

@@ -1,5 +1,5 @@
 -- Rows of 64, one written after another. Assumes nothing.
-use mathlib.Core.Path.{_≡_, refl, sym, ap, _∙_}
+use mathlib.Core.Path.{_≡_, sym, ap, _∙_}
 use mathlib.Core.Bool.{true}
 use mathlib.Core.List.{List, _++_}
 use mathlib.Core.Logic.{inl, inr}
@@ -7,9 +7,8 @@ use Prim.Native.Nat.{ℕ, _+_, _-_, _*_, _<_, _≤_}
 use native.Mathlib.Omega.{arith}
 use lib.Dec.{eqb}
 use lib.ListN.{length, getD, take}
-use Rattle.std.specs.declared.option.Option.{Option}
 use Rattle.std.specs.declared.option.Option.the-variants.{Some, None}
-use Rattle.std.proofs.shelf.Tests.{eq-eqb, ne-eqb, cases-eq, cond-false}
+use Rattle.std.proofs.shelf.Tests.{ne-eqb, cases-eq, cond-false}
 use Rattle.std.proofs.shelf.Lists.{getD-append-left, length-take-le, getD-take, getD-drop, getD-append-right}
 use Rattle.std.proofs.shelf.Parts.{drop-putMid}
 use borrow.Rule.Slice.PartMut.{putMid, postOf}
@@ -46,15 +45,6 @@ rows-more P n d k xs ys v few l size len old row e a p = elim (cases-eq e d) [
   | inl x ↦ rw (x, put-in (d * 64) k xs ys a v (omega arith) (omega (arith, p .1))) (row a (p .1))
   | inr x ↦ rw (put-below (d * 64) k xs ys (e * 64 + a) v (omega arith) (omega (arith, p .0, p .1))) (old e a (omega (arith, p .0), p .1))
 ]
-
--- the test that two are the same
-
-same-self : (f : Option ℕ) → same f f ≡ true
-same-self None = refl
-same-self (Some a) = eq-eqb a a refl
-
-pub is-same : (f h : Option ℕ) → f ≡ h → same f h ≡ true
-is-same f h e = rw e (same-self h)
 
 -- an entry that is a distance
 pub read-some : (z : Network) → Lawful z → Limited z → (d a x : ℕ) → (x ≡ 4294967295 → ⊥) → same (decoded x) (distance z d a) ≡ true → (Some x ≡ distance z d a) × (x ≤ 4128705)

@@ -13,7 +13,7 @@ and-comm true false = refl
 and-comm false true = refl
 and-comm false false = refl
 
-or-comm : (a b : Bool) → (a || b) ≡ (b || a)
+pub or-comm : (a b : Bool) → (a || b) ≡ (b || a)
 or-comm true true = refl
 or-comm true false = refl
 or-comm false true = refl

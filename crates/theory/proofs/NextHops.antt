@@ -26,7 +26,7 @@ same-eq None (Some e) t = absurd (both-ways false refl t)
 same-eq (Some a) None t = absurd (both-ways false refl t)
 same-eq (Some a) (Some e) t = ap Some (eqb-true a e t)
 
-eq-same : (f g : Option ℕ) → f ≡ g → same f g ≡ true
+pub eq-same : (f g : Option ℕ) → f ≡ g → same f g ≡ true
 eq-same None None t = refl
 eq-same None (Some e) t = absurd (none-some e t)
 eq-same (Some a) None t = absurd (none-some a (sym t))
