@@ -8,6 +8,6 @@ use Rattle.report.proofs.plan_of.Goals as goal
 pub returns : goal.returns
 returns c =
     let z = routes_network c.args.routes.now in
-    three (tables z) (codes "detours\n") (flat_map (link_row z) c.args.links.now) (vec_items c.new-out.result) (vec_items c.push-tables.new.out) (vec_items c.extend-from-slice.new.self) (vec_items c.push-detours.new.out)
-    c.in-ok-push-tables.ensures c.in-ok-extend-from-slice.ensures.items c.in-ok-push-detours.ensures ∙
+    three (tables z) (codes "detours\n") (flat_map (link_row z) c.args.links.now) (vec_items c.new-out.result) (vec_items c.push_tables.new.out) (vec_items c.extend_from_slice.new.self) (vec_items c.push_detours.new.out)
+    c.in_ok-push_tables.ensures c.in_ok-extend_from_slice.ensures.items c.in_ok-push_detours.ensures ∙
     ap (λ x. x ++ plan z c.args.links.now) c.new-out.ensures.items

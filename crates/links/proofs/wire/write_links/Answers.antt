@@ -12,8 +12,8 @@ loop-link-preserved c =
     let h : i < length ls = omega arith in
     let t = take_more ls i start h in
     let j = flat_map_more link_bytes (vec_items c.args.out.now) (take i ls) (get_or ls i start) in
-    let e = c.in-ok-extend-from-slice.ensures.items in
-    let b = c.link-bytes.ensures in
+    let e = c.in_ok-extend_from_slice.ensures.items in
+    let b = c.link_bytes.ensures in
     let v = c.loop-link.invariant in
     cc
 

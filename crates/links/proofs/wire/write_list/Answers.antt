@@ -8,8 +8,8 @@ use Rattle.links.proofs.Lawful.{rising_few}
 use Rattle.links.proofs.RoundTrip.{written_reads}
 use Rattle.links.proofs.wire.write_list.Goals as goal
 
-pub overflow-cast-count : goal.overflow-cast-count
-overflow-cast-count c =
+pub overflow_cast-count : goal.overflow_cast-count
+overflow_cast-count c =
     let h = rising_few c.args.nodes start c.args.links.now c.requires.few.1 (omega arith) (omega arith) c.requires.ordered in
     record { fits = div_below (length c.args.links.now) 256 256 (omega arith) (omega arith) }
 
@@ -19,9 +19,9 @@ put_together n ls none header all q r t = t ∙ ap (λ h. h ++ flat_map link_byt
 
 pub returns : goal.returns
 returns c =
-    let v : vec_items c.write-links.new.out ≡ written c.args.nodes c.args.links.now =
-    put_together c.args.nodes c.args.links.now (vec_items c.new-out.result) (vec_items c.extend-from-slice.new.self) (vec_items c.write-links.new.out)
+    let v : vec_items c.write_links.new.out ≡ written c.args.nodes c.args.links.now =
+    put_together c.args.nodes c.args.links.now (vec_items c.new-out.result) (vec_items c.extend_from_slice.new.self) (vec_items c.write_links.new.out)
     c.new-out.ensures.items
-    c.in-ok-extend-from-slice.ensures.items
-    c.in-ok-write-links.ensures in
+    c.in_ok-extend_from_slice.ensures.items
+    c.in_ok-write_links.ensures in
     record { value = v; back = ap reading v ∙ written_reads c.args.nodes c.args.links.now c.requires.few.0 c.requires.few.1 c.requires.ordered }

@@ -7,10 +7,10 @@ use Rattle.receiving.proofs.settling.settle.Goals as goal
 pub loop-destination-init : goal.loop-destination-init
 loop-destination-init c = none_asked (model c.args.router.now) (vec_items c.args.said.now)
 
-pub returns-in-err-switch : goal.returns-in-err-switch
-returns-in-err-switch c =
+pub returns-in_err-switch : goal.returns-in_err-switch
+returns-in_err-switch c =
     let p = err_from_is_err_and c.from-residual.result c.from-residual.ensures.1 in
-    rw (p.1, p.2) (broken c.loop-destination.destination (model c.args.router.now) (model c.loop-destination.router) (model c.switch.new.self) (vec_items c.args.said.now) (vec_items c.loop-destination.said) (vec_items c.switch.new.said) c.in-err-switch.field-0.0 c.loop-destination.invariant c.in-err-switch.ensures)
+    rw (p.1, p.2) (broken c.loop-destination.destination (model c.args.router.now) (model c.loop-destination.router) (model c.switch.new.self) (vec_items c.args.said.now) (vec_items c.loop-destination.said) (vec_items c.switch.new.said) c.in_err-switch.field-0.0 c.loop-destination.invariant c.in_err-switch.ensures)
 
 pub loop-destination-preserved : goal.loop-destination-preserved
-loop-destination-preserved c = one_more c.loop-destination.destination (model c.args.router.now) (model c.loop-destination.router) (model c.switch.new.self) (vec_items c.args.said.now) (vec_items c.loop-destination.said) (vec_items c.switch.new.said) c.loop-destination.invariant c.in-ok-switch.ensures
+loop-destination-preserved c = one_more c.loop-destination.destination (model c.args.router.now) (model c.loop-destination.router) (model c.switch.new.self) (vec_items c.args.said.now) (vec_items c.loop-destination.said) (vec_items c.switch.new.said) c.loop-destination.invariant c.in_ok-switch.ensures

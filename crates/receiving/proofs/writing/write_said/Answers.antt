@@ -11,12 +11,12 @@ loop-sent-preserved c =
     let i = c.loop-sent.sent-index in
     let ss = c.args.said.now in
     let h : i < length ss = omega arith in
-    one_more ss i _ (vec_items c.args.out.now) (vec_items c.loop-sent.out) (vec_items c.write-sent.new.out) h c.loop-sent.invariant c.in-ok-write-sent.ensures
+    one_more ss i _ (vec_items c.args.out.now) (vec_items c.loop-sent.out) (vec_items c.write_sent.new.out) h c.loop-sent.invariant c.in_ok-write_sent.ensures
 
-pub returns-in-err-write-sent : goal.returns-in-err-write-sent
-returns-in-err-write-sent c =
+pub returns-in_err-write_sent : goal.returns-in_err-write_sent
+returns-in_err-write_sent c =
     let p = err_from_is_err_and c.from-residual.result c.from-residual.ensures.1 in
-    rw (p.1, p.2) (cut_short c.in-err-write-sent.field-0.0 (vec_items c.args.out.now) (vec_items c.loop-sent.out) (vec_items c.write-sent.new.out) (flat_map sent_bytes (take c.loop-sent.sent-index c.args.said.now)) c.loop-sent.invariant c.in-err-write-sent.ensures)
+    rw (p.1, p.2) (cut_short c.in_err-write_sent.field-0.0 (vec_items c.args.out.now) (vec_items c.loop-sent.out) (vec_items c.write_sent.new.out) (flat_map sent_bytes (take c.loop-sent.sent-index c.args.said.now)) c.loop-sent.invariant c.in_err-write_sent.ensures)
 
 pub returns : goal.returns
 returns c = let t = take_all c.loop-sent.sent-index c.args.said.now (omega arith) in cc

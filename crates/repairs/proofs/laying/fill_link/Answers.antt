@@ -10,4 +10,4 @@ returns c =
     let r = c.args.routes.now in
     let z = routes_network r in
     let w = ((matrix_lawful r.costs).within c.args.s.0 c.args.f.0 c.requires.0).1 in
-    link_laid z (matrix_lawful r.costs) c.args.s.0 c.args.f.0 _ c.args.table.now c.fill-row.new.row (omega (arith, r.costs.few)) r.costs.few.1 c.requires.1 (c.fill-row.auto.row ∙ simp (length-take, length-drop) (omega arith)) (omega arith) c.fill-row.ensures
+    link_laid z (matrix_lawful r.costs) c.args.s.0 c.args.f.0 _ c.args.table.now c.fill_row.new.row (omega (arith, r.costs.few)) r.costs.few.1 c.requires.1 (c.fill_row.auto.row ∙ simp (length-take, length-drop) (omega arith)) (omega arith) c.fill_row.ensures

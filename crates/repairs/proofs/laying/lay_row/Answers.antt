@@ -8,6 +8,6 @@ use Rattle.repairs.proofs.laying.lay_row.Goals as goal
 pub returns : goal.returns
 returns c =
     let r = c.args.routes.now in
-    let h = c.fill-row.ensures in
-    let k = c.in-default.ensures in
-    (k.0, k.1 ∙ c.nodes-n.ensures.value, h, λ d p. right (routes_network r) (matrix_lawful r.costs) c.args.s.0 c.args.f.0 d (get_or c.fill-row.new.row d Unused) (h d p))
+    let h = c.fill_row.ensures in
+    let k = c.in_default.ensures in
+    (k.0, k.1 ∙ c.nodes-n.ensures.value, h, λ d p. right (routes_network r) (matrix_lawful r.costs) c.args.s.0 c.args.f.0 d (get_or c.fill_row.new.row d Unused) (h d p))

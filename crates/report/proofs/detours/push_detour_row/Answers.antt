@@ -9,11 +9,11 @@ returns c =
     let z = routes_network c.args.routes.now in
     let a = c.args.link.a.0 in
     let b = c.args.link.b.0 in
-    let e = c.in-ok-lay-row.ensures in
-    let g = c.in-ok-lay-row-2.ensures in
+    let e = c.in_ok-lay_row.ensures in
+    let g = c.in_ok-lay_row-2.ensures in
     row_text (link_name a b) (detour z a b) z.n
-    (vec_items c.args.out.now) (vec_items c.push-link.new.out) (vec_items c.push.new.self) (vec_items c.push-entries.new.out) (vec_items c.push-2.new.self)
-    c.in-ok-push-link.ensures
-    c.in-ok-push.ensures.items
-    (c.in-ok-push-entries.ensures ∙ ap (λ l. vec_items c.push.new.self ++ l) (detour_cells z a b (length c.lay-row.new.row) c.lay-row.new.row c.lay-row-2.new.row (c.lay-row.auto.row ∙ e.1) e.2 g.2))
-    c.in-ok-push-2.ensures.items
+    (vec_items c.args.out.now) (vec_items c.push_link.new.out) (vec_items c.push.new.self) (vec_items c.push_entries.new.out) (vec_items c.push-2.new.self)
+    c.in_ok-push_link.ensures
+    c.in_ok-push.ensures.items
+    (c.in_ok-push_entries.ensures ∙ ap (λ l. vec_items c.push.new.self ++ l) (detour_cells z a b (length c.lay_row.new.row) c.lay_row.new.row c.lay_row-2.new.row (c.lay_row.auto.row ∙ e.1) e.2 g.2))
+    c.in_ok-push-2.ensures.items

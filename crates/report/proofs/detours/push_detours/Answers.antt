@@ -13,7 +13,7 @@ loop-link-preserved c =
     let z = routes_network c.args.routes.now in
     let out = vec_items c.args.out.now in
     let h : i < length ls = omega arith in
-    c.in-ok-push-detour-row.ensures ∙
+    c.in_ok-push_detour_row.ensures ∙
     (ap (λ l. l ++ link_row z (get_or ls i start)) c.loop-link.invariant ∙
     (flat_map_more (link_row z) out (take i ls) (get_or ls i start) ∙ ap (λ l. out ++ flat_map (link_row z) l) (sym (take_more ls i start h))))
 

@@ -6,4 +6,4 @@ use Rattle.report.proofs.detours.push_entries.Given as goal
 
 abbrev pub invariant-loop-d : goal.invariant-loop-d
 invariant-loop-d l =
-    vec_items l.out ≡ (vec_items l.initial.out ++ cells (λ d. of_ends l.link.a.0 l.link.b.0 (meaning (get_or l.row-a d Unused)) (meaning (get_or l.row-b d Unused))) l.d)
+    vec_items l.out ≡ (vec_items l.initial.out ++ cells (λ d. of_ends l.link.a.0 l.link.b.0 (meaning (get_or l.row_a d Unused)) (meaning (get_or l.row_b d Unused))) l.d)

@@ -9,5 +9,5 @@ loop-d-init c = no_cells _ _
 
 pub loop-d-preserved : goal.loop-d-preserved
 loop-d-preserved c =
-    more_cells (λ d. cell (value (routes_network c.args.routes.now) c.args.which c.args.a d)) c.loop-d.d (cell c.value-at.result) (vec_items c.args.out.now) (vec_items c.loop-d.out) (vec_items c.push.new.self) (vec_items c.push-cell.new.out)
-    c.loop-d.invariant c.in-ok-push.ensures.items c.in-ok-push-cell.ensures (ap cell c.value-at.ensures)
+    more_cells (λ d. cell (value (routes_network c.args.routes.now) c.args.which c.args.a d)) c.loop-d.d (cell c.value_at.result) (vec_items c.args.out.now) (vec_items c.loop-d.out) (vec_items c.push.new.self) (vec_items c.push_cell.new.out)
+    c.loop-d.invariant c.in_ok-push.ensures.items c.in_ok-push_cell.ensures (ap cell c.value_at.ensures)

@@ -7,5 +7,5 @@ use Rattle.report.proofs.tables.push_row.Goals as goal
 pub returns : goal.returns
 returns c =
     row_text (decimal c.args.a) (λ d. cell (value (routes_network c.args.routes.now) c.args.which c.args.a d)) c.args.nodes
-    (vec_items c.args.out.now) (vec_items c.push-number.new.out) (vec_items c.push.new.self) (vec_items c.push-cells.new.out) (vec_items c.push-2.new.self)
-    c.in-ok-push-number.ensures c.in-ok-push.ensures.items c.in-ok-push-cells.ensures c.in-ok-push-2.ensures.items
+    (vec_items c.args.out.now) (vec_items c.push_number.new.out) (vec_items c.push.new.self) (vec_items c.push_cells.new.out) (vec_items c.push-2.new.self)
+    c.in_ok-push_number.ensures c.in_ok-push.ensures.items c.in_ok-push_cells.ensures c.in_ok-push-2.ensures.items

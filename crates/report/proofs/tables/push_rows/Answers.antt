@@ -8,7 +8,7 @@ pub loop-a-init : goal.loop-a-init
 loop-a-init c = no_rows _ _ _
 
 pub loop-a-preserved : goal.loop-a-preserved
-loop-a-preserved c = more_rows c.args.nodes _ c.loop-a.a _ (vec_items c.loop-a.out) _ c.loop-a.invariant c.in-ok-push-row.ensures
+loop-a-preserved c = more_rows c.args.nodes _ c.loop-a.a _ (vec_items c.loop-a.out) _ c.loop-a.invariant c.in_ok-push_row.ensures
 
 pub returns : goal.returns
 returns c =

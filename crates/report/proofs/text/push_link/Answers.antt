@@ -4,5 +4,5 @@ use Rattle.report.proofs.text.push_link.Goals as goal
 
 pub returns : goal.returns
 returns c =
-    three (decimal c.args.a.0) (45 ∷ []) (decimal c.args.b.0) (vec_items c.args.out.now) (vec_items c.push-node.new.out) (vec_items c.push.new.self) (vec_items c.push-node-2.new.out)
-    c.in-ok-push-node.ensures c.in-ok-push.ensures.items c.in-ok-push-node-2.ensures
+    three (decimal c.args.a.0) (45 ∷ []) (decimal c.args.b.0) (vec_items c.args.out.now) (vec_items c.push_node.new.out) (vec_items c.push.new.self) (vec_items c.push_node-2.new.out)
+    c.in_ok-push_node.ensures c.in_ok-push.ensures.items c.in_ok-push_node-2.ensures

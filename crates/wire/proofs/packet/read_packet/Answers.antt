@@ -22,6 +22,6 @@ returns c =
     let e = c.read.ensures in
     record {
       value = e;
-      lawful = lawful c.read.result c.args.origin c.args.nodes c.args.bytes.now (λ i. (c.type-inv.bytes i).fits) e;
-      spelled = spelled c.read.result c.args.origin c.args.nodes c.args.bytes.now (λ i. (c.type-inv.bytes i).fits) e;
+      lawful = lawful c.read.result c.args.origin c.args.nodes c.args.bytes.now (λ i. (c.type_inv.bytes i).fits) e;
+      spelled = spelled c.read.result c.args.origin c.args.nodes c.args.bytes.now (λ i. (c.type_inv.bytes i).fits) e;
     }

@@ -12,7 +12,7 @@ loop-segment-preserved c =
     let h : i < length ss = omega arith in
     let t = take_more ss i (Node (record { 0 = 0 })) h in
     let j = flat_map_more (λ s. segment_bytes (segment_of s)) (vec_items c.args.out.now) (take i ss) (get_or ss i (Node (record { 0 = 0 }))) in
-    let e = c.in-ok-write-segment.ensures in
+    let e = c.in_ok-write_segment.ensures in
     let v = c.loop-segment.invariant in
     cc
 

@@ -19,5 +19,5 @@ returns c go ss =
     let r = c.args.self.now in
     let g = matrix_lawful r.routes.costs in
     let w = hop_within (routes_network r.routes) g c.args.aim.0 r.me.0 c.args.hop.0 (old_hop (model r) g c.args.hop.0 c.args.aim.0 c.requires.hop c.requires.down) in
-    ap (λ o. put_repair go ss (repair_of o)) c.repair-in.ensures ∙
+    ap (λ o. put_repair go ss (repair_of o)) c.repair_in.ensures ∙
     repair_found (model r) g c.args.hop.0 c.args.aim.0 c.requires.hop c.requires.down _ (r.laid c.args.hop.0 c.args.aim.0 (w.1, w.0, w.2)) go ss

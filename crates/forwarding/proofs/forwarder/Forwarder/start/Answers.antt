@@ -3,4 +3,4 @@ use Rattle.forwarding.proofs.Models.{begins}
 use Rattle.forwarding.proofs.forwarder.Forwarder.start.Goals as goal
 
 pub returns : goal.returns
-returns c = begins (routes_network c.args.routes) c.args.me.0 _ c.none-switched.ensures
+returns c = begins (routes_network c.args.routes) c.args.me.0 _ c.none_switched.ensures

@@ -7,4 +7,4 @@ use Rattle.network.proofs.network.Network.arrival.Goals as goal
 pub returns-in-None : goal.returns-in-None
 returns-in-None c =
     let k = c.args.number in
-    sym (get_or_past (vec_items c.args.self.now.arrivals) k NotYet (subst (λ (l : List Arrival). length l ≤ k) c.as-slice.ensures.value c.in-None.ensures.lookup.3))
+    sym (get_or_past (vec_items c.args.self.now.arrivals) k NotYet (subst (λ (l : List Arrival). length l ≤ k) c.as_slice.ensures.value c.in-None.ensures.lookup.3))

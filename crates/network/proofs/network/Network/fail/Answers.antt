@@ -4,4 +4,4 @@ use Rattle.network.proofs.network.Network.fail.Goals as goal
 
 pub returns : goal.returns
 returns c =
-    fail_asked (ends c.args.link) c.args.self.now c.hear.new.self c.hear-2.new.self c.hear-2.result c.if-link.false c.in-ok-judge-2.ensures c.in-ok-hear.ensures.value c.hear-2.ensures.value
+    fail_asked (ends c.args.link) c.args.self.now c.hear.new.self c.hear-2.new.self c.hear-2.result c.if-link.false c.in_ok-judge-2.ensures c.in_ok-hear.ensures.value c.hear-2.ensures.value

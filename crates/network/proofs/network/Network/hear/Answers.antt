@@ -8,19 +8,19 @@ use Rattle.network.proofs.Failing.{hear_outside}
 use Rattle.network.proofs.Replies.{asked, still_placed, hear_put, no_router}
 use Rattle.network.proofs.network.Network.hear.Goals as goal
 
-pub returns-in-default : goal.returns-in-default
-returns-in-default c =
+pub returns-in_default : goal.returns-in_default
+returns-in_default c =
     let m = message_of c.args.message in
     record {
       value = (
         record { is = refl; paths = λ p. refl; waiting = λ k. refl },
-        inl (subst (λ s. RefusedBy (hear s c.args.from.0 m) NoSuchLink) (sym (no_router (vec_items c.args.self.now.routers) c.args.node.0 c.in-default.ensures.item.3)) (hear_outside c.args.from.0 m)),
+        inl (subst (λ s. RefusedBy (hear s c.args.from.0 m) NoSuchLink) (sym (no_router (vec_items c.args.self.now.routers) c.args.node.0 c.in_default.ensures.item.3)) (hear_outside c.args.from.0 m)),
       );
       arrivals = refl;
     }
 
-pub invariant-of-self-2 : goal.invariant-of-self-2
-invariant-of-self-2 c =
+pub invariant_of-self-2 : goal.invariant_of-self-2
+invariant_of-self-2 c =
     let net = c.args.self.now in
     let r = c.in-Some.router.now in
     let i = c.in-Some.ensures.item in

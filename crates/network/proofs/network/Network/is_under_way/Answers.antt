@@ -13,12 +13,12 @@ returns-in-Some c =
     let j = c.in-Some.journey.now in
     let q = c.args.number in
     let js = vec_items c.args.self.now.journeys in
-    let e : c.as-slice.result.now ≡ js = c.as-slice.ensures.value in
-    c.is-under-way.ensures ∙ ap is_under_way (sym (read_at flight_of js q j NoPacket (subst (λ (l : List Journey). q < length l) e i.3.0) (subst (λ (l : List Journey). j ≡ get_or l q j) e i.1)))
+    let e : c.as_slice.result.now ≡ js = c.as_slice.ensures.value in
+    c.is_under_way.ensures ∙ ap is_under_way (sym (read_at flight_of js q j NoPacket (subst (λ (l : List Journey). q < length l) e i.3.0) (subst (λ (l : List Journey). j ≡ get_or l q j) e i.1)))
 
 pub returns-in-None : goal.returns-in-None
 returns-in-None c =
     let q = c.args.number in
     let js = vec_items c.args.self.now.journeys in
-    let h : length js ≤ q = subst (λ (l : List Journey). length l ≤ q) c.as-slice.ensures.value c.in-None.ensures.lookup.3 in
+    let h : length js ≤ q = subst (λ (l : List Journey). length l ≤ q) c.as_slice.ensures.value c.in-None.ensures.lookup.3 in
     sym (ap is_under_way (no_flight js q h))

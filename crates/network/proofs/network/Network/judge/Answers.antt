@@ -13,10 +13,10 @@ use Rattle.network.proofs.Replies.{no_router}
 use Rattle.network.proofs.Sets.{read_at}
 use Rattle.network.proofs.network.Network.judge.Goals as goal
 
-pub returns-in-default : goal.returns-in-default
-returns-in-default c =
+pub returns-in_default : goal.returns-in_default
+returns-in_default c =
     let u = c.args.node.0 in
-    let h : length (vec_items c.args.self.now.routers) ≤ u = subst (λ (l : List Router). length l ≤ u) c.as-slice.ensures.value c.in-default.ensures.lookup.3 in
+    let h : length (vec_items c.args.self.now.routers) ≤ u = subst (λ (l : List Router). length l ≤ u) c.as_slice.ensures.value c.in_default.ensures.lookup.3 in
     subst (λ s. RefusedBy (hear_down (ends c.args.link) s) NoSuchLink) (sym (no_router (vec_items c.args.self.now.routers) u h)) (hear_outside u (LinkDown (ends c.args.link)))
 
 pub returns : goal.returns
@@ -25,6 +25,6 @@ returns c =
     let rs = vec_items c.args.self.now.routers in
     let r = c.in-Some.router.now in
     let i = c.in-Some.ensures.lookup in
-    let l : u < length rs = subst (λ (l : List Router). u < length l) c.as-slice.ensures.value i.3.0 in
-    let e = subst (λ (l : List Router). r ≡ get_or l u r) c.as-slice.ensures.value i.1 in
-    subst (λ s. Judged (hear_down (ends c.args.link) s) c.judge-failure.result) (sym (read_at model rs u r outside l e)) c.judge-failure.ensures
+    let l : u < length rs = subst (λ (l : List Router). u < length l) c.as_slice.ensures.value i.3.0 in
+    let e = subst (λ (l : List Router). r ≡ get_or l u r) c.as_slice.ensures.value i.1 in
+    subst (λ s. Judged (hear_down (ends c.args.link) s) c.judge_failure.result) (sym (read_at model rs u r outside l e)) c.judge_failure.ensures

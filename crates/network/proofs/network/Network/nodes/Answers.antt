@@ -11,6 +11,6 @@ returns-in-Some c =
     let rs = vec_items net.routers in
     let r = c.in-Some.router.now in
     let i = c.in-Some.ensures.item in
-    let l : 0 < length rs = subst (λ (l : List Router). 0 < length l) c.as-slice.ensures.value i.3.0 in
-    let e : r ≡ get_or rs 0 r = subst (λ (l : List Router). r ≡ get_or l 0 r) c.as-slice.ensures.value i.1 in
+    let l : 0 < length rs = subst (λ (l : List Router). 0 < length l) c.as_slice.ensures.value i.3.0 in
+    let e : r ≡ get_or rs 0 r = subst (λ (l : List Router). r ≡ get_or l 0 r) c.as_slice.ensures.value i.1 in
     record { value = c.nodes.ensures.value ∙ (ap (λ (f : Forwarder). (forwarding.model f).links.n) c.forwarder.ensures ∙ (placed_at (length rs) 0 rs 0 r net.in_place l e).1); bound = c.nodes.ensures.bounds.1 }

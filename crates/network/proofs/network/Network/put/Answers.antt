@@ -6,22 +6,22 @@ use Rattle.network.proofs.Hops.{put_system, put_path, put_others}
 use Rattle.network.proofs.Inside.{inside_pushed, node_in_lem}
 use Rattle.network.proofs.network.Network.put.Goals as goal
 
-pub invariant-of-self : goal.invariant-of-self
-invariant-of-self c =
+pub invariant_of-self : goal.invariant_of-self
+invariant_of-self c =
     let net = c.args.self.now in
-    let j = c.in-ok-journey.journey in
-    let e : j.at.0 ≡ c.args.at.0 = sym (node_in_lem j) ∙ ap node_in c.in-ok-journey.ensures.0 in
+    let j = c.in_ok-journey.journey in
+    let e : j.at.0 ≡ c.args.at.0 = sym (node_in_lem j) ∙ ap node_in c.in_ok-journey.ensures.0 in
     let l : j.at.0 < length (vec_items net.routers) = omega (arith, c.len.ensures, net.routers.ok) in
     (net.in_place, (inside_pushed (length (vec_items net.routers)) (vec_items net.journeys) (vec_items c.push.new.self) j _ c.push.ensures.items net.in_reach l, tt))
 
 pub returns : goal.returns
 returns c =
     let net = c.args.self.now in
-    let j = c.in-ok-journey.journey in
+    let j = c.in_ok-journey.journey in
     let js = vec_items net.journeys in
     let n : c.len-number.result ≡ length js = omega (arith, c.len-number.ensures, net.journeys.ok) in
-    let e = c.in-ok-push.ensures.items in
-    let h = c.in-ok-journey.ensures in
+    let e = c.in_ok-push.ensures.items in
+    let h = c.in_ok-journey.ensures in
     rw n (
     record {
       next = refl;

@@ -5,4 +5,4 @@ use Rattle.network.proofs.Sets.{read_item}
 use Rattle.network.proofs.network.Network.router.Goals as goal
 
 pub returns : goal.returns
-returns c = read_item model (vec_items c.args.self.now.routers) c.as-slice.result.now c.args.node.0 outside c.get.result c.as-slice.ensures.value c.get.ensures.lookup
+returns c = read_item model (vec_items c.args.self.now.routers) c.as_slice.result.now c.args.node.0 outside c.get.result c.as_slice.ensures.value c.get.ensures.lookup

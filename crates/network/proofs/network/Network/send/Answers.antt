@@ -9,5 +9,5 @@ pub returns : goal.returns
 returns c =
     let s = c.args.segments in
     let short : length (sender_segments s) ≤ 3 = omega (arith, length-map (take s.count s.segments) segment_of, length-take s.count s.segments, s.few) in
-    let h = c.in-ok-play.ensures in
-    sends c.args.at.0 c.in-ok-number.number c.args.destination.0 (sender_segments s) c.args.self.now c.put.new.self c.play.new.self short c.in-ok-number.ensures h.played.0 h.played.1 h.promised.0 h.promised.1
+    let h = c.in_ok-play.ensures in
+    sends c.args.at.0 c.in_ok-number.number c.args.destination.0 (sender_segments s) c.args.self.now c.put.new.self c.play.new.self short c.in_ok-number.ensures h.played.0 h.played.1 h.promised.0 h.promised.1

@@ -4,11 +4,11 @@ use Rattle.switchover.specs.Model.{model}
 use Rattle.network.proofs.Replies.{asked, still_placed, switch_put, switch_asked, switch_outside}
 use Rattle.network.proofs.network.Network.switch.Goals as goal
 
-pub returns-in-default : goal.returns-in-default
-returns-in-default c = switch_outside c.args.node.0 c.args.destination.0 c.args.self.now _ (record { paths = λ p. refl; waiting = λ k. refl }) refl c.in-default.ensures.item.3
+pub returns-in_default : goal.returns-in_default
+returns-in_default c = switch_outside c.args.node.0 c.args.destination.0 c.args.self.now _ (record { paths = λ p. refl; waiting = λ k. refl }) refl c.in_default.ensures.item.3
 
-pub invariant-of-self-2 : goal.invariant-of-self-2
-invariant-of-self-2 c =
+pub invariant_of-self-2 : goal.invariant_of-self-2
+invariant_of-self-2 c =
     let net = c.args.self.now in
     let r = c.in-Some.router.now in
     let i = c.in-Some.ensures.item in

@@ -5,4 +5,4 @@ pub loop-destination-init : goal.loop-destination-init
 loop-destination-init c = none_switched c.args.node.0 c.args.self.now
 
 pub loop-destination-preserved : goal.loop-destination-preserved
-loop-destination-preserved c = one_more c.args.node.0 c.loop-destination.destination c.args.self.now c.loop-destination.self c.switch-if-untouched.new.self c.loop-destination.invariant c.in-ok-switch-if-untouched.ensures
+loop-destination-preserved c = one_more c.args.node.0 c.loop-destination.destination c.args.self.now c.loop-destination.self c.switch_if_untouched.new.self c.loop-destination.invariant c.in_ok-switch_if_untouched.ensures

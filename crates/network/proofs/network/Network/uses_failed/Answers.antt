@@ -13,13 +13,13 @@ returns-in-Some c =
     let rs = vec_items c.args.self.now.routers in
     let r = c.in-Some.router.now in
     let i = c.in-Some.ensures.lookup in
-    let l : u < length rs = subst (λ (l : List Router). u < length l) c.as-slice.ensures.value i.3.0 in
-    let e = subst (λ (l : List Router). r ≡ get_or l u r) c.as-slice.ensures.value i.1 in
-    c.uses-failed.ensures ∙ ap (λ s. uses_failed s c.args.destination.0) (sym (read_at model rs u r outside l e))
+    let l : u < length rs = subst (λ (l : List Router). u < length l) c.as_slice.ensures.value i.3.0 in
+    let e = subst (λ (l : List Router). r ≡ get_or l u r) c.as_slice.ensures.value i.1 in
+    c.uses_failed.ensures ∙ ap (λ s. uses_failed s c.args.destination.0) (sym (read_at model rs u r outside l e))
 
 pub returns-in-None : goal.returns-in-None
 returns-in-None c =
     let u = c.args.node.0 in
     let rs = vec_items c.args.self.now.routers in
-    let h : length rs ≤ u = subst (λ (l : List Router). length l ≤ u) c.as-slice.ensures.value c.in-None.ensures.lookup.3 in
+    let h : length rs ≤ u = subst (λ (l : List Router). length l ≤ u) c.as_slice.ensures.value c.in-None.ensures.lookup.3 in
     sym (ap (λ s. uses_failed s c.args.destination.0) (no_router rs u h))

@@ -8,4 +8,4 @@ loop-u-init c = idle_none (network c.args.topology.now) (vec_items c.new-routers
 
 pub loop-u-preserved : goal.loop-u-preserved
 loop-u-preserved c =
-    idle_one_more (network c.args.topology.now) c.loop-u.u (vec_items c.loop-u.routers) (vec_items c.push.new.self) c.in-ok-router.router c.loop-u.invariant c.in-ok-router.ensures.1 c.in-ok-push.ensures.items
+    idle_one_more (network c.args.topology.now) c.loop-u.u (vec_items c.loop-u.routers) (vec_items c.push.new.self) c.in_ok-router.router c.loop-u.invariant c.in_ok-router.ensures.1 c.in_ok-push.ensures.items

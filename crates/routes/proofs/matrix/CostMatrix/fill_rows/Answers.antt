@@ -13,5 +13,5 @@ loop-d-preserved c =
     let m = c.args.self.now in
     let z = matrix_network m in (
       rows_more (λ d a x. same (decoded x) (distance z d a) ≡ true) m.nodes c.loop-d.d _ c.loop-d.dist c.settle.new.dist 0 m.few.1 c.loop-d-test.true (omega arith) c.settle.ensures.size c.loop-d.invariant.0 (λ a h. eq_same _ _ (c.settle.ensures.each a h)),
-      rows_more (λ d a x. same (hop_of x) (next_hop z d a) ≡ true) m.nodes c.loop-d.d _ c.loop-d.hops c.next-hops.new.hops None m.few.1 c.loop-d-test.true (omega arith) (c.next-hops.auto.hops ∙ simp (length-take, length-drop) (omega arith)) c.loop-d.invariant.1 (λ a h. eq_same _ _ (c.next-hops.ensures c.loop-d.d c.settle.ensures a h)),
+      rows_more (λ d a x. same (hop_of x) (next_hop z d a) ≡ true) m.nodes c.loop-d.d _ c.loop-d.hops c.next_hops.new.hops None m.few.1 c.loop-d-test.true (omega arith) (c.next_hops.auto.hops ∙ simp (length-take, length-drop) (omega arith)) c.loop-d.invariant.1 (λ a h. eq_same _ _ (c.next_hops.ensures c.loop-d.d c.settle.ensures a h)),
     )

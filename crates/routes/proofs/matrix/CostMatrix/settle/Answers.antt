@@ -40,4 +40,4 @@ pub returns : goal.returns
 returns c =
     let m = c.args.self.now in
     let e : c.loop-i.left - 0 ≡ c.loop-i.left = omega arith in
-    stands_all (matrix_network m) (matrix_lawful m) (matrix_limited m) c.args.d.0 c.loop-i.unsettled c.loop-i.left c.loop-i.dist c.loop-i.invariant (subst (λ j. NoneNearer (take j c.loop-i.unsettled) c.loop-i.dist) e c.in-default.ensures)
+    stands_all (matrix_network m) (matrix_lawful m) (matrix_limited m) c.args.d.0 c.loop-i.unsettled c.loop-i.left c.loop-i.dist c.loop-i.invariant (subst (λ j. NoneNearer (take j c.loop-i.unsettled) c.loop-i.dist) e c.in_default.ensures)

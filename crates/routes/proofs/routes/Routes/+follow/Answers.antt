@@ -5,10 +5,10 @@ use Rattle.routes.proofs.Costs.{matrix_lawful}
 use Rattle.routes.proofs.Steps.{hop_falls, path_none, path_on}
 use Rattle.routes.proofs.routes.Routes.+follow.Goals as goal
 
-pub returns-in-default : goal.returns-in-default
-returns-in-default t c =
+pub returns-in_default : goal.returns-in_default
+returns-in_default t c =
     let r = c.args.self.now in
-    path_none (routes_network r) (matrix_lawful r.costs) c.args.d.0 c.args.a.0 (vec_items c.args.nodes) c.in-default.ensures
+    path_none (routes_network r) (matrix_lawful r.costs) c.args.d.0 c.args.a.0 (vec_items c.args.nodes) c.in_default.ensures
 
 pub follow-requires : goal.follow-requires
 follow-requires t c =
@@ -18,4 +18,4 @@ follow-requires t c =
 pub returns : goal.returns
 returns t c =
     let r = c.args.self.now in
-    path_on (routes_network r) (matrix_lawful r.costs) c.args.d.0 vec_items (λ f. f ≡ Memory) c.follow.result c.args.a.0 c.in-Some.e (vec_items c.args.nodes) (vec_items c.push.new.self) c.in-Some.ensures c.in-ok-push.ensures.items c.follow.ensures
+    path_on (routes_network r) (matrix_lawful r.costs) c.args.d.0 vec_items (λ f. f ≡ Memory) c.follow.result c.args.a.0 c.in-Some.e (vec_items c.args.nodes) (vec_items c.push.new.self) c.in-Some.ensures c.in_ok-push.ensures.items c.follow.ensures

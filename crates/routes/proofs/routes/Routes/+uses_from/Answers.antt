@@ -5,13 +5,13 @@ use Rattle.routes.proofs.Costs.{matrix_lawful}
 use Rattle.routes.proofs.Steps.{hop_falls, uses_none, uses_here, uses_on}
 use Rattle.routes.proofs.routes.Routes.+uses_from.Goals as goal
 
-pub returns-in-default : goal.returns-in-default
-returns-in-default t c =
+pub returns-in_default : goal.returns-in_default
+returns-in_default t c =
     let r = c.args.self.now in
-    uses_none (routes_network r) (matrix_lawful r.costs) c.args.d.0 (ends c.args.link) c.args.a.0 c.in-default.ensures
+    uses_none (routes_network r) (matrix_lawful r.costs) c.args.d.0 (ends c.args.link) c.args.a.0 c.in_default.ensures
 
-pub uses-from-requires : goal.uses-from-requires
-uses-from-requires t c =
+pub uses_from-requires : goal.uses_from-requires
+uses_from-requires t c =
     let r = c.args.self.now in
     omega (arith, hop_falls (routes_network r) (matrix_lawful r.costs) c.args.d.0 c.args.a.0 c.in-Some.e.0 c.in-Some.ensures)
 
@@ -23,4 +23,4 @@ returns-then-joins t c =
 pub returns-else-joins : goal.returns-else-joins
 returns-else-joins t c =
     let r = c.args.self.now in
-    uses_on (routes_network r) (matrix_lawful r.costs) c.args.d.0 (ends c.args.link) c.args.a.0 c.in-Some.e.0 c.uses-from.result c.in-Some.ensures c.uses-from.ensures c.if-joins.ensures
+    uses_on (routes_network r) (matrix_lawful r.costs) c.args.d.0 (ends c.args.link) c.args.a.0 c.in-Some.e.0 c.uses_from.result c.in-Some.ensures c.uses_from.ensures c.if-joins.ensures

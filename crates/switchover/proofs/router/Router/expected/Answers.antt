@@ -12,7 +12,7 @@ loop-d-init c = (search rules, rows_none (learn (ends c.args.link) (model c.args
 pub loop-d-preserved : goal.loop-d-preserved
 loop-d-preserved c = (
   length-set c.loop-d.pending c.loop-d.d _ ∙ c.loop-d.invariant.0,
-  rows_more c.loop-d.d (learn (ends c.args.link) (model c.args.self.now)).pending c.loop-d.pending c.expected-for.result (omega arith) c.loop-d.invariant.1 c.expected-for.ensures,
+  rows_more c.loop-d.d (learn (ends c.args.link) (model c.args.self.now)).pending c.loop-d.pending c.expected_for.result (omega arith) c.loop-d.invariant.1 c.expected_for.ensures,
 )
 
 pub returns : goal.returns

@@ -12,7 +12,7 @@ loop-u-init c = upto_none ((learn (ends c.args.link) (model c.args.self.now)).pe
 
 pub loop-u-preserved : goal.loop-u-preserved
 loop-u-preserved c =
-    upto_more c.loop-u.u ((learn (ends c.args.link) (model c.args.self.now)).pending c.args.destination.0) (bit c.loop-u.set) (bit c.with-if-set.result) c.expects.result c.loop-u.invariant c.expects.ensures c.with-if-set.ensures
+    upto_more c.loop-u.u ((learn (ends c.args.link) (model c.args.self.now)).pending c.args.destination.0) (bit c.loop-u.set) (bit c.with_if-set.result) c.expects.result c.loop-u.invariant c.expects.ensures c.with_if-set.ensures
 
 pub returns : goal.returns
 returns c =

@@ -10,4 +10,4 @@ pub returns-in-Switched : goal.returns-in-Switched
 returns-in-Switched c =
     let s = model c.args.self.now in
     let said = vec_items c.args.said.now in
-    subst (λ (m : Message). Answered (hear s c.args.from.0 (message_of m)) s (model c.hear-switched.new.self) said said c.hear-switched.result) (sym c.in-Switched.is) (c.hear-switched.ensures said)
+    subst (λ (m : Message). Answered (hear s c.args.from.0 (message_of m)) s (model c.hear_switched.new.self) said said c.hear_switched.result) (sym c.in-Switched.is) (c.hear_switched.ensures said)

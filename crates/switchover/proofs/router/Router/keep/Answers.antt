@@ -17,4 +17,4 @@ returns c =
     let f = forwarding.model r.forwarder in
     let e : Early = record { from = c.args.who; destination = c.args.destination; link = c.args.link } in
     goes_quietly ((learn l s).pending c.args.destination.0 c.args.who.0) (keep c.args.who.0 c.args.destination.0 l s) s _ c.if-not-expects.ensures
-    (kept_as f f s.removed s.removed s.pending s.pending _ (early_of e ∷ s.early) refl refl (λ d u. refl) (newest_push early_of (vec_items r.early) (vec_items c.push.new.self) e [] c.in-ok-push.ensures.items))
+    (kept_as f f s.removed s.removed s.pending s.pending _ (early_of e ∷ s.early) refl refl (λ d u. refl) (newest_push early_of (vec_items r.early) (vec_items c.push.new.self) e [] c.in_ok-push.ensures.items))

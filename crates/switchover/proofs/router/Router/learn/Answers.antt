@@ -10,8 +10,8 @@ use Rattle.switchover.proofs.Expected.{waits_outside}
 use Rattle.switchover.proofs.Models.{links_lawful, kept_as}
 use Rattle.switchover.proofs.router.Router.learn.Goals as goal
 
-pub invariant-of-self : goal.invariant-of-self
-invariant-of-self c =
+pub invariant_of-self : goal.invariant_of-self
+invariant_of-self c =
     let r = c.args.self.now in
     let same = ap (λ (s : Router). s.links.n) c.learn.ensures in (
       λ d u h. c.expected-self.ensures d u ∙ waits_outside (model r) (links_lawful r) (ends c.args.link) d u (elim h [ inl i ↦ inl (omega (arith, same)) | inr i ↦ inr (omega (arith, same)) ]),

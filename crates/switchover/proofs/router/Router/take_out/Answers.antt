@@ -13,6 +13,6 @@ unfolding newest_first
 returns c =
     let s = model c.args.self.now in
     let l = ends c.args.link in
-    kept_as (forwarding.model c.take-out.new.self) (idle (without l s.links) [] s.me) _ (l ∷ s.removed) _ (λ d u. false) _ [] c.take-out.ensures
-    (newest_push ends (vec_items c.args.self.now.removed) (vec_items c.push.new.self) c.args.link [] c.in-ok-push.ensures.items)
+    kept_as (forwarding.model c.take_out.new.self) (idle (without l s.links) [] s.me) _ (l ∷ s.removed) _ (λ d u. false) _ [] c.take_out.ensures
+    (newest_push ends (vec_items c.args.self.now.removed) (vec_items c.push.new.self) c.args.link [] c.in_ok-push.ensures.items)
     c.nobody-self.ensures (ap (λ x. newest_first early_of x []) c.clear.ensures.items)

@@ -14,7 +14,7 @@ pub loop-k-preserved : goal.loop-k-preserved
 loop-k-preserved c =
     let s = model c.args.self.now in (
       omega arith,
-      tell_more s.links (ends c.args.link) s.me c.loop-k.k (sents (vec_items c.args.said.now)) (sents (vec_items c.loop-k.said)) _ c.loop-k.invariant.1 c.tell-one.ensures.items,
+      tell_more s.links (ends c.args.link) s.me c.loop-k.k (sents (vec_items c.args.said.now)) (sents (vec_items c.loop-k.said)) _ c.loop-k.invariant.1 c.tell_one.ensures.items,
     )
 
 pub returns : goal.returns

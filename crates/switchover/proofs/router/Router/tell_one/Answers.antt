@@ -10,8 +10,8 @@ pub returns-then-reaches : goal.returns-then-reaches
 returns-then-reaches c =
     let s = model c.args.self.now in
     record {
-      items = sents_push (vec_items c.args.said.now) _ _ (tell_one s.links (ends c.args.link) s.me c.args.to.0) c.push-reserved.ensures.items
+      items = sents_push (vec_items c.args.said.now) _ _ (tell_one s.links (ends c.args.link) s.me c.args.to.0) c.push_reserved.ensures.items
           (told_one s.links (ends c.args.link) s.me c.args.to.0 c.if-reaches.ensures ∙ ap (λ u. record { from = u; to = c.args.to.0; message = LinkDown (ends c.args.link) } ∷ []) (sym c.node.ensures));
       len = omega arith;
-      capacity = c.push-reserved.ensures.capacity;
+      capacity = c.push_reserved.ensures.capacity;
     }

@@ -7,5 +7,5 @@ use Rattle.switchover.proofs.router.switching.say.Goals as goal
 
 pub returns-in-Some : goal.returns-in-Some
 returns-in-Some c =
-    sents_push (vec_items c.args.said.now) (vec_items c.push-reserved.new.self) _ (told c.args.from.0 c.args.destination.0 (ends c.args.link) (hop_of c.args.to)) c.push-reserved.ensures.items
+    sents_push (vec_items c.args.said.now) (vec_items c.push_reserved.new.self) _ (told c.args.from.0 c.args.destination.0 (ends c.args.link) (hop_of c.args.to)) c.push_reserved.ensures.items
     (ap (λ o. told c.args.from.0 c.args.destination.0 (ends c.args.link) (hop_of o)) c.in-Some.is)
