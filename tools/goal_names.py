@@ -14,7 +14,7 @@ USE = re.compile(r"(?m)^[ \t]*(?:ghost )?use ([^\s{;]+?)\.?(?:\{([^}]*)\})?(?: a
 WORDS = ["in_ok", "in_err", "in_default", "invariant_of", "type_inv", "slice_bounds", "offset_bounds", "nonzero_div", "nonzero_rem"]
 WORDS += [f"overflow_{x}" for x in "add sub mul shl shr cast step neg div rem".split()]
 # Rust's words that are one part of a name: of the library's functions that these crates call.
-CALLED = "extend_from_slice as_slice as_mut_slice get_mut push_reserved push_str as_bytes to_vec read_to_end write_all index_mut is_empty is_some is_none copy_from_slice split_at starts_with ends_with unwrap_or ok_or from_utf8 into_iter iter_mut with_capacity swap_remove".split()
+CALLED = "from_residual extend_from_slice as_slice as_mut_slice get_mut push_reserved push_str as_bytes to_vec read_to_end write_all index_mut is_empty is_some is_none copy_from_slice split_at starts_with ends_with unwrap_or ok_or from_utf8 into_iter iter_mut with_capacity swap_remove".split()
 
 
 def main():

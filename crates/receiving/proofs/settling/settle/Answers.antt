@@ -9,7 +9,7 @@ loop-destination-init c = none_asked (model c.args.router.now) (vec_items c.args
 
 pub returns-in_err-switch : goal.returns-in_err-switch
 returns-in_err-switch c =
-    let p = err_from_is_err_and c.from-residual.result c.from-residual.ensures.1 in
+    let p = err_from_is_err_and c.from_residual.result c.from_residual.ensures.1 in
     rw (p.1, p.2) (broken c.loop-destination.destination (model c.args.router.now) (model c.loop-destination.router) (model c.switch.new.self) (vec_items c.args.said.now) (vec_items c.loop-destination.said) (vec_items c.switch.new.said) c.in_err-switch.field-0.0 c.loop-destination.invariant c.in_err-switch.ensures)
 
 pub loop-destination-preserved : goal.loop-destination-preserved

@@ -8,7 +8,7 @@ use Rattle.wire.proofs.packet.+read_segments.Goals as goal
 
 pub returns-in_err-end : goal.returns-in_err-end
 returns-in_err-end t c =
-    let p = err_from_is_err_and c.from-residual.result c.from-residual.ensures.1 in
+    let p = err_from_is_err_and c.from_residual.result c.from_residual.ensures.1 in
     rw (p.1, p.2) (end_refused c.args.left c.args.nodes c.args.size c.args.bytes.now (packet_of c.args.packet) c.in_err-end.field-0.0 (omega arith) c.in_err-end.ensures)
 
 pub returns-then-left-eq0 : goal.returns-then-left-eq0
