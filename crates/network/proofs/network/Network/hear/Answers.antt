@@ -25,7 +25,8 @@ invariant_of-self-2 c =
     let r = c.in-Some.router.now in
     let i = c.in-Some.ensures.item in
     let m = message_of c.args.message in
-    still_placed (vec_items net.routers) (vec_items net.journeys) (vec_items net.said) (vec_items c.hear.new.said) c.args.node.0 r c.hear.new.self (hear (model r) c.args.from.0 m) c.hear.result i.3.0 i.1 (hear_put (model r) c.args.from.0 m) c.hear.ensures net.in_place net.in_reach
+    let p = still_placed (vec_items net.routers) (vec_items net.journeys) (vec_items net.said) (vec_items c.hear.new.said) c.args.node.0 r c.hear.new.self (hear (model r) c.args.from.0 m) c.hear.result i.3.0 i.1 (hear_put (model r) c.args.from.0 m) c.hear.ensures net.in_place net.in_reach in
+    record { in_place = p.0; in_reach = p.1.0 }
 
 pub returns : goal.returns
 returns c =

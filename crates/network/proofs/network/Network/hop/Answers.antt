@@ -20,7 +20,7 @@ invariant_of-self-in_default-get c =
     let net = c.args.self.now in
     let j = c.in-Some.journey.now in
     let i = c.in-Some.ensures.item in
-    (net.in_place, (inside_set (length (vec_items net.routers)) (vec_items net.journeys) c.args.number j net.in_reach (inside_at (length (vec_items net.routers)) (vec_items net.journeys) c.args.number j net.in_reach i.3.0 i.1), tt))
+    record { in_place = net.in_place; in_reach = inside_set (length (vec_items net.routers)) (vec_items net.journeys) c.args.number j net.in_reach (inside_at (length (vec_items net.routers)) (vec_items net.journeys) c.args.number j net.in_reach i.3.0 i.1) }
 
 pub returns-in_default-get : goal.returns-in_default-get
 returns-in_default-get c =
@@ -49,7 +49,7 @@ invariant_of-self-2 c =
     let r = c.in-Some-get.router.now in
     let i = c.in-Some-get.ensures.finds in
     let f = found (vec_items net.routers) c.as_slice.result.now c.at.result.0 j r net.in_place c.as_slice.ensures.value c.at.ensures i.3.0 i.1 in
-    (net.in_place, (inside_set (length (vec_items net.routers)) (vec_items net.journeys) c.args.number c.go_on.new.self net.in_reach (handled_inside (length (vec_items net.routers)) r j c.go_on.new.self c.go_on.result f.2 f.0 c.go_on.ensures), tt))
+    record { in_place = net.in_place; in_reach = inside_set (length (vec_items net.routers)) (vec_items net.journeys) c.args.number c.go_on.new.self net.in_reach (handled_inside (length (vec_items net.routers)) r j c.go_on.new.self c.go_on.result f.2 f.0 c.go_on.ensures) }
 
 pub returns : goal.returns
 returns c =

@@ -6,7 +6,8 @@ use Rattle.network.proofs.network.Network.new.Goals as goal
 pub invariant_of-result : goal.invariant_of-result
 invariant_of-result c =
     let h = c.in_ok-routers.ensures in
-    placed_at_first (network c.args.topology.now) (vec_items c.in_ok-routers.routers) (vec_items c.new-3.result) h.0 h.1 c.new-3.ensures.items
+    let p = placed_at_first (network c.args.topology.now) (vec_items c.in_ok-routers.routers) (vec_items c.new-3.result) h.0 h.1 c.new-3.ensures.items in
+    record { in_place = p.0; in_reach = p.1.0 }
 
 pub returns : goal.returns
 returns c =

@@ -12,7 +12,7 @@ invariant_of-self c =
     let j = c.in_ok-journey.journey in
     let e : j.at.0 ≡ c.args.at.0 = sym (node_in_lem j) ∙ ap node_in c.in_ok-journey.ensures.0 in
     let l : j.at.0 < length (vec_items net.routers) = omega (arith, c.len.ensures, net.routers.ok) in
-    (net.in_place, (inside_pushed (length (vec_items net.routers)) (vec_items net.journeys) (vec_items c.push.new.self) j _ c.push.ensures.items net.in_reach l, tt))
+    record { in_place = net.in_place; in_reach = inside_pushed (length (vec_items net.routers)) (vec_items net.journeys) (vec_items c.push.new.self) j _ c.push.ensures.items net.in_reach l }
 
 pub returns : goal.returns
 returns c =

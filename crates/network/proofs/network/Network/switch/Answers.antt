@@ -12,7 +12,8 @@ invariant_of-self-2 c =
     let net = c.args.self.now in
     let r = c.in-Some.router.now in
     let i = c.in-Some.ensures.item in
-    still_placed (vec_items net.routers) (vec_items net.journeys) (vec_items net.said) (vec_items c.switch.new.said) c.args.node.0 r c.switch.new.self (switch (model r) c.args.destination.0) c.switch.result i.3.0 i.1 (switch_put (model r) c.args.destination.0) c.switch.ensures net.in_place net.in_reach
+    let p = still_placed (vec_items net.routers) (vec_items net.journeys) (vec_items net.said) (vec_items c.switch.new.said) c.args.node.0 r c.switch.new.self (switch (model r) c.args.destination.0) c.switch.result i.3.0 i.1 (switch_put (model r) c.args.destination.0) c.switch.ensures net.in_place net.in_reach in
+    record { in_place = p.0; in_reach = p.1.0 }
 
 pub returns : goal.returns
 returns c =

@@ -13,10 +13,11 @@ use Rattle.switchover.proofs.router.Router.learn.Goals as goal
 pub invariant_of-self : goal.invariant_of-self
 invariant_of-self c =
     let r = c.args.self.now in
-    let same = ap (λ (s : Router). s.links.n) c.learn.ensures in (
-      λ d u h. c.expected-self.ensures d u ∙ waits_outside (model r) (links_lawful r) (ends c.args.link) d u (elim h [ inl i ↦ inl (omega (arith, same)) | inr i ↦ inr (omega (arith, same)) ]),
-      tt,
-    )
+    let same = ap (λ (s : Router). s.links.n) c.learn.ensures in
+    record {
+      within =
+          λ d u h. c.expected-self.ensures d u ∙ waits_outside (model r) (links_lawful r) (ends c.args.link) d u (elim h [ inl i ↦ inl (omega (arith, same)) | inr i ↦ inr (omega (arith, same)) ]);
+    }
 
 pub returns : goal.returns
 unfolding newest_first

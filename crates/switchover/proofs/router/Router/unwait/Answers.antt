@@ -14,10 +14,11 @@ invariant_of-self c =
     let r = c.args.self.now in
     let d = c.args.destination.0 in
     let u = c.args.who.0 in
-    let w = held_within r.forwarder.routes.costs.nodes r.pending d u r.within c.if-not-waits_for.ensures in (
-      λ e v h. one_less r.pending d u c.without.result (omega (arith, w.0, r.forwarder.routes.costs.few.1)) c.without.ensures e v ∙ and_left (bit (get_or r.pending e 0) v) (not (eqb e d && eqb v u)) (r.within e v h),
-      tt,
-    )
+    let w = held_within r.forwarder.routes.costs.nodes r.pending d u r.within c.if-not-waits_for.ensures in
+    record {
+      within =
+          λ e v h. one_less r.pending d u c.without.result (omega (arith, w.0, r.forwarder.routes.costs.few.1)) c.without.ensures e v ∙ and_left (bit (get_or r.pending e 0) v) (not (eqb e d && eqb v u)) (r.within e v h);
+    }
 
 pub returns : goal.returns
 returns c =
