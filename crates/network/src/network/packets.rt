@@ -25,7 +25,7 @@ impl Network {
             return Err(Fault::NodeOutOfRange);
         }
         let number = self.journeys.len();
-        let journey = Journey::new(self.journeys.allocator(), at, destination, segments)?;
+        let journey = Journey::new(*self.journeys.allocator(), at, destination, segments)?;
         self.journeys.push(journey)?;
         Ok(number)
     }

@@ -28,7 +28,7 @@ returns-in_default-get c =
     let j = c.in-Some.journey.now in
     let i = c.in-Some.ensures.item in
     let l : j.at.0 < length (vec_items net.routers) = inside_at (length (vec_items net.routers)) (vec_items net.journeys) c.args.number j net.in_reach i.3.0 i.1 in
-    let h : length c.as_slice.result.now ≤ c.at.result.0 = c.in_default-get.ensures.finds.3 in
+    let h : length c.as_slice.result.now ≤ c.at.result.0 = c.in_default-get.ensures.lookup.3 in
     absurd (omega (arith, ap length c.as_slice.ensures.value, c.at.ensures ∙ node_in_lem j))
 
 -- the router that was found, and the packet
@@ -47,7 +47,7 @@ invariant_of-self-2 c =
     let net = c.args.self.now in
     let j = c.in-Some.journey.now in
     let r = c.in-Some-get.router.now in
-    let i = c.in-Some-get.ensures.finds in
+    let i = c.in-Some-get.ensures.lookup in
     let f = found (vec_items net.routers) c.as_slice.result.now c.at.result.0 j r net.in_place c.as_slice.ensures.value c.at.ensures i.3.0 i.1 in
     record { in_place = net.in_place; in_reach = inside_set (length (vec_items net.routers)) (vec_items net.journeys) c.args.number c.go_on.new.self net.in_reach (handled_inside (length (vec_items net.routers)) r j c.go_on.new.self c.go_on.result f.2 f.0 c.go_on.ensures) }
 
@@ -56,7 +56,7 @@ returns c =
     let net = c.args.self.now in
     let j = c.in-Some.journey.now in
     let r = c.in-Some-get.router.now in
-    let i = c.in-Some-get.ensures.finds in
+    let i = c.in-Some-get.ensures.lookup in
     let k = c.in-Some.ensures.item in
     let f = found (vec_items net.routers) c.as_slice.result.now c.at.result.0 j r net.in_place c.as_slice.ensures.value c.at.ensures i.3.0 i.1 in
     hop_asked c.args.number net _ c.go_on.new.self c.go_on.result refl (λ p. refl)
