@@ -1,8 +1,7 @@
 // One router: frames on standard input, and what it hands on and says on standard output.
 #![tactic(auto)]
 
-use anyhow::anyhow;
-use console::ended;
+use console::{Ending, ended};
 use links::fault::Fault;
 use links::node::NodeId;
 use receiving::answering::answer;
@@ -10,6 +9,7 @@ use receiving::framing::next_frame;
 use receiving::listing::start;
 use std::alloc::Global;
 use std::io::{Read, Write};
+use std::process::ExitCode;
 use std::{env, mem};
 use switchover::router::Router;
 
@@ -33,23 +33,23 @@ enum Request {
     Router(NodeId),
 }
 
-fn asked(rt: &HostRuntime) -> anyhow::Result<Request> {
+fn asked(rt: &HostRuntime) -> Result<Request, Ending> {
     let mut node = None;
     for word in env::args(rt)?.skip(1) {
         if word.as_str() == "--help" {
             return Ok(Request::Help);
         }
         if word.as_str().starts_with('+') || node.is_some() {
-            return Err(USAGE.into());
+            return Err(Ending::Text(USAGE));
         }
         node = word.as_str().parse::<u8>().ok();
         if node.is_none() {
-            return Err(USAGE.into());
+            return Err(Ending::Text(USAGE));
         }
     }
     match node {
         Some(number) => Ok(Request::Router(NodeId(number))),
-        None => Err(USAGE.into()),
+        None => Err(Ending::Text(USAGE)),
     }
 }
 
@@ -78,7 +78,7 @@ impl Station {
     }
 
     // All frames that are whole now; what is left of the bytes is kept.
-    fn take_all(&mut self, heap: Global, bytes: &[u8]) -> anyhow::Result<()> {
+    fn take_all(&mut self, heap: Global, bytes: &[u8]) -> Result<(), Ending> {
         self.cut.extend_from_slice(bytes)?;
         let input = mem::replace(&mut self.cut, Vec::new(heap));
         let mut left = input.as_slice();
@@ -96,7 +96,7 @@ impl Station {
     }
 
     // A frame that is cut at the end of the input is refused like any other.
-    fn end(&mut self) -> anyhow::Result<()> {
+    fn end(&mut self) -> Result<(), Ending> {
         if self.cut.is_empty() {
             return Ok(());
         }
@@ -105,7 +105,7 @@ impl Station {
     }
 
     // What is to be written is written.
-    fn hand_out(&mut self, rt: &HostRuntime) -> anyhow::Result<()> {
+    fn hand_out(&mut self, rt: &HostRuntime) -> Result<(), Ending> {
         rt.stdout().write_all(self.out.as_slice())?;
         rt.stderr().write_all(self.faults.as_bytes())?;
         self.out.clear();
@@ -124,17 +124,17 @@ impl Station {
     }
 
     // A Switched message that nobody waits for is passed over in silence. Want of memory ends the program.
-    fn note(&mut self, fault: Fault) -> anyhow::Result<()> {
+    fn note(&mut self, fault: Fault) -> Result<(), Ending> {
         let k = self.frames;
         match fault.number() {
-            None => Err(anyhow!("out of memory")),
+            None => Err(Ending::Text("out of memory")),
             Some(6) => Ok(()),
             Some(n) => Ok(write!(self.faults, "frame {k}: fault {n}: {fault}\n")?),
         }
     }
 }
 
-fn run(rt: &HostRuntime) -> anyhow::Result<()> {
+fn run(rt: &HostRuntime) -> Result<(), Ending> {
     let me = match asked(rt)? {
         Request::Help => {
             return Ok(rt.stdout().write_all(HELP.as_bytes())?);
@@ -148,7 +148,7 @@ fn run(rt: &HostRuntime) -> anyhow::Result<()> {
 }
 
 // Frames are taken as they come, and what comes of them is written before more is read.
-fn serve(rt: &HostRuntime, station: &mut Station) -> anyhow::Result<()> {
+fn serve(rt: &HostRuntime, station: &mut Station) -> Result<(), Ending> {
     for _ in 0..usize::MAX {
         let mut room = [0u8; 65536];
         let count = rt.stdin().read(&mut room)?;
@@ -164,6 +164,6 @@ fn serve(rt: &HostRuntime, station: &mut Station) -> anyhow::Result<()> {
     station.end()
 }
 
-fn main(rt: HostRuntime) -> anyhow::Result<()> {
+fn main(rt: HostRuntime) -> ExitCode {
     ended(&rt, run(&rt))
 }

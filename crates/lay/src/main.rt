@@ -1,12 +1,12 @@
 // Reads a list of links and prints the distances, the next-hop tables and the repairs of the network.
 #![tactic(auto)]
 
-use anyhow::anyhow;
-use console::{ended, input, topology};
+use console::{Ending, ended, fault_said, input, topology};
 use links::topology::Topology;
 use report::plan;
 use std::env;
 use std::io::Write;
+use std::process::ExitCode;
 use summary::summary;
 
 mod summary;
@@ -18,7 +18,7 @@ enum Request {
     Lay(Option<String>, bool),
 }
 
-fn asked(rt: &HostRuntime) -> anyhow::Result<Request> {
+fn asked(rt: &HostRuntime) -> Result<Request, Ending> {
     let mut file = None;
     let mut brief = false;
     for word in env::args(rt)?.skip(1) {
@@ -28,7 +28,7 @@ fn asked(rt: &HostRuntime) -> anyhow::Result<Request> {
         if word.as_str() == "--summary" {
             brief = true;
         } else if word.as_str().starts_with('-') || file.is_some() {
-            return Err(anyhow!("usage: lay [--summary] [FILE], or lay --help"));
+            return Err(Ending::Text("usage: lay [--summary] [FILE], or lay --help"));
         } else {
             file = Some(word);
         }
@@ -36,7 +36,7 @@ fn asked(rt: &HostRuntime) -> anyhow::Result<Request> {
     Ok(Request::Lay(file, brief))
 }
 
-fn print_help(rt: &HostRuntime) -> anyhow::Result<()> {
+fn print_help(rt: &HostRuntime) -> Result<(), Ending> {
     println!(rt; "usage: lay [--summary] [FILE]")?;
     println!(rt; "")?;
     println!(rt;
@@ -63,14 +63,14 @@ fn print_help(rt: &HostRuntime) -> anyhow::Result<()> {
 }
 
 // The plan, which is worked out whole before anything is printed.
-fn print_plan(rt: &HostRuntime, topology: &Topology) -> anyhow::Result<()> {
+fn print_plan(rt: &HostRuntime, topology: &Topology) -> Result<(), Ending> {
     match plan(rt.alloc(), topology) {
         Ok(text) => Ok(rt.stdout().write_all(text.as_slice())?),
-        Err(fault) => Err(anyhow!(format!(in rt.alloc(); "{fault}")?)),
+        Err(fault) => Err(fault_said(rt.alloc(), fault)?),
     }
 }
 
-fn run(rt: &HostRuntime) -> anyhow::Result<()> {
+fn run(rt: &HostRuntime) -> Result<(), Ending> {
     let (file, brief) = match asked(rt)? {
         Request::Help => return print_help(rt),
         Request::Lay(file, brief) => (file, brief),
@@ -84,6 +84,6 @@ fn run(rt: &HostRuntime) -> anyhow::Result<()> {
     print_plan(rt, &topology)
 }
 
-fn main(rt: HostRuntime) -> anyhow::Result<()> {
+fn main(rt: HostRuntime) -> ExitCode {
     ended(&rt, run(&rt))
 }

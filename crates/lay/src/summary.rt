@@ -1,5 +1,5 @@
 // The summary of a plan: how many repairs there are, which failures cut whom off, and the longest repair.
-use anyhow::anyhow;
+use console::{Ending, fault_said};
 use links::link::Link;
 use links::node::NodeId;
 use links::topology::Topology;
@@ -28,7 +28,7 @@ struct Count {
 }
 
 // The text that `lay --summary` prints.
-pub fn summary(heap: Global, topology: &Topology) -> anyhow::Result<String> {
+pub fn summary(heap: Global, topology: &Topology) -> Result<String, Ending> {
     let routes = Routes::of(topology);
     let mut count = Count {
         used: 0,
@@ -43,7 +43,7 @@ pub fn summary(heap: Global, topology: &Topology) -> anyhow::Result<String> {
 }
 
 // Both ends of a link, for each destination.
-fn count_link(heap: Global, count: &mut Count, routes: &Routes, link: Link) -> anyhow::Result<()> {
+fn count_link(heap: Global, count: &mut Count, routes: &Routes, link: Link) -> Result<(), Ending> {
     let n = routes.nodes() as usize;
     let mut room_a = [Entry::Unused; 64];
     let mut room_b = [Entry::Unused; 64];
@@ -69,15 +69,15 @@ fn lay_end(
     s: NodeId,
     f: NodeId,
     row: &mut [Entry],
-) -> anyhow::Result<()> {
+) -> Result<(), Ending> {
     match lay_row(routes, s, f, row) {
         Ok(()) => Ok(()),
-        Err(fault) => Err(anyhow!(format!(in heap; "{fault}")?)),
+        Err(fault) => Err(fault_said(heap, fault)?),
     }
 }
 
 // A line for an end that is cut off from some destinations.
-fn name_cut(cut: &mut String, link: Link, s: NodeId, row: &[Entry]) -> anyhow::Result<()> {
+fn name_cut(cut: &mut String, link: Link, s: NodeId, row: &[Entry]) -> Result<(), Ending> {
     let mut any = false;
     for (d, entry) in row.iter().enumerate() {
         if let Entry::Apart = entry {
@@ -142,7 +142,7 @@ fn longer(best: Option<Longest>, this: Longest) -> Option<Longest> {
     }
 }
 
-fn text_of(heap: Global, topology: &Topology, count: Count) -> anyhow::Result<String> {
+fn text_of(heap: Global, topology: &Topology, count: Count) -> Result<String, Ending> {
     let (nodes, links) = (topology.nodes(), topology.links().len());
     let (repaired, used) = (count.repaired, count.used);
     let mut out = format!(in heap;

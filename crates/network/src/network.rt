@@ -10,7 +10,7 @@ pub mod arrivals;
 pub mod build;
 pub mod events;
 pub mod lookups;
-pub mod packets;
+pub mod sending;
 
 // A whole network: its routers by their nodes, every message that was sent, the oldest first, with how far it is (those
 // that have no entry have not come yet), and the packets by their numbers.

@@ -8,9 +8,9 @@ use links::link::LinkId;
 pub mod build;
 pub mod expecting;
 pub mod failures;
+pub mod forward;
 pub mod hearing;
 pub mod lookups;
-pub mod packets;
 pub mod switching;
 pub mod telling;
 

@@ -67,9 +67,3 @@ impl From<AllocError> for BadLine {
         BadLine::Refused(Fault::Memory)
     }
 }
-
-impl From<fmt::Error> for BadLine {
-    fn from(_e: fmt::Error) -> BadLine {
-        BadLine::Refused(Fault::Memory)
-    }
-}

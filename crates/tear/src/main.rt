@@ -1,9 +1,8 @@
 // Plays a whole network by a script: links fail, messages arrive, routers switch over, and packets go.
 #![tactic(auto)]
 
-use anyhow::anyhow;
 use bad_line::BadLine;
-use console::{ended, input, topology};
+use console::{Ending, ended, fault_said, input, topology};
 use links::topology::Topology;
 use network::network::Network;
 use playing::play;
@@ -11,6 +10,7 @@ use script::{lines, parse};
 use std::alloc::Global;
 use std::env;
 use std::io::Write;
+use std::process::ExitCode;
 
 mod bad_line;
 mod playing;
@@ -26,7 +26,7 @@ enum Request {
     Tear(String, Option<String>),
 }
 
-fn asked(rt: &HostRuntime) -> anyhow::Result<Request> {
+fn asked(rt: &HostRuntime) -> Result<Request, Ending> {
     let mut links = None;
     let mut script = None;
     for word in env::args(rt)?.skip(1) {
@@ -34,7 +34,7 @@ fn asked(rt: &HostRuntime) -> anyhow::Result<Request> {
             return Ok(Request::Help);
         }
         if word.as_str().starts_with('-') || script.is_some() {
-            return Err(USAGE.into());
+            return Err(Ending::Text(USAGE));
         }
         if links.is_some() {
             script = Some(word);
@@ -44,11 +44,11 @@ fn asked(rt: &HostRuntime) -> anyhow::Result<Request> {
     }
     match links {
         Some(links) => Ok(Request::Tear(links, script)),
-        None => Err(USAGE.into()),
+        None => Err(Ending::Text(USAGE)),
     }
 }
 
-fn print_help(rt: &HostRuntime) -> anyhow::Result<()> {
+fn print_help(rt: &HostRuntime) -> Result<(), Ending> {
     println!(rt; "usage: tear LINKS [SCRIPT]")?;
     println!(rt; "")?;
     println!(rt;
@@ -86,14 +86,14 @@ fn play_script(
     network: &mut Network,
     script: &[u8],
     out: &mut String,
-) -> anyhow::Result<()> {
+) -> Result<(), Ending> {
     let lines = lines(heap, script)?;
     for (k, line) in lines.iter().enumerate() {
         match play_line(heap, network, line, out) {
             Ok(()) => {}
             Err(bad) => {
                 let number = k.saturating_add(1);
-                return Err(anyhow!(format!(in heap; "line {number}: {bad}")?));
+                return Err(Ending::Said(format!(in heap; "line {number}: {bad}")?));
             }
         }
     }
@@ -110,14 +110,14 @@ fn play_line(
     play(network, command, out)
 }
 
-fn network_of(heap: Global, topology: &Topology) -> anyhow::Result<Network> {
+fn network_of(heap: Global, topology: &Topology) -> Result<Network, Ending> {
     match Network::new(heap, topology) {
         Ok(network) => Ok(network),
-        Err(fault) => Err(anyhow!(format!(in heap; "{fault}")?)),
+        Err(fault) => Err(fault_said(heap, fault)?),
     }
 }
 
-fn run(rt: &HostRuntime) -> anyhow::Result<()> {
+fn run(rt: &HostRuntime) -> Result<(), Ending> {
     let (links, script) = match asked(rt)? {
         Request::Help => return print_help(rt),
         Request::Tear(links, script) => (links, script),
@@ -132,6 +132,6 @@ fn run(rt: &HostRuntime) -> anyhow::Result<()> {
     end
 }
 
-fn main(rt: HostRuntime) -> anyhow::Result<()> {
+fn main(rt: HostRuntime) -> ExitCode {
     ended(&rt, run(&rt))
 }

@@ -5,17 +5,16 @@ use links::link::LinkId;
 use links::node::NodeId;
 use messages::message::{Message, Sent};
 use network::network::Network;
-use std::fmt;
-use std::fmt::Write;
+use std::alloc::AllocError;
 use switchover::router::Router;
 
-pub fn print_closed(out: &mut String, link: LinkId) -> fmt::Result {
+pub fn print_closed(out: &mut String, link: LinkId) -> Result<(), AllocError> {
     let (a, b) = (link.a.0, link.b.0);
     writeln!(out, "closed {a}-{b}")
 }
 
 // The messages under way.
-pub fn print_words(out: &mut String, network: &Network) -> fmt::Result {
+pub fn print_words(out: &mut String, network: &Network) -> Result<(), AllocError> {
     let before = out.len();
     for (k, sent) in network.messages().iter().enumerate() {
         if network.is_message_under_way(k) {
@@ -23,12 +22,12 @@ pub fn print_words(out: &mut String, network: &Network) -> fmt::Result {
         }
     }
     if out.len() == before {
-        out.write_str("no words\n")?;
+        out.push_str("no words\n")?;
     }
     Ok(())
 }
 
-fn print_word(out: &mut String, k: usize, sent: Sent) -> fmt::Result {
+fn print_word(out: &mut String, k: usize, sent: Sent) -> Result<(), AllocError> {
     let number = k.saturating_add(1);
     let (from, to) = (sent.from.0, sent.to.0);
     match sent.message {
@@ -47,11 +46,11 @@ fn print_word(out: &mut String, k: usize, sent: Sent) -> fmt::Result {
     }
 }
 
-pub fn print_refused(out: &mut String, k: usize, fault: Fault) -> fmt::Result {
+pub fn print_refused(out: &mut String, k: usize, fault: Fault) -> Result<(), AllocError> {
     let number = k.saturating_add(1);
     write!(out, "word {number} refused")?;
     print_fault(out, fault)?;
-    out.write_str("\n")
+    out.push_str("\n")
 }
 
 // Whom the router u waits for before it switches for d, if it waits.
@@ -61,7 +60,7 @@ pub fn print_waits(
     u: NodeId,
     d: NodeId,
     nodes: u8,
-) -> fmt::Result {
+) -> Result<(), AllocError> {
     if router.forwarder().failure().is_none() || router.forwarder().has_switched(d) {
         return Ok(());
     }
@@ -72,27 +71,27 @@ pub fn print_waits(
             write!(out, " {v}")?;
         }
     }
-    out.write_str("\n")
+    out.push_str("\n")
 }
 
 // Where a packet is, or how it ended and the whole path from its start.
-pub fn print_packet(out: &mut String, network: &Network, q: usize) -> fmt::Result {
+pub fn print_packet(out: &mut String, network: &Network, q: usize) -> Result<(), AllocError> {
     match network.journey(q) {
         Some(journey) => print_journey(out, journey, q.saturating_add(1)),
         None => Ok(()),
     }
 }
 
-fn print_journey(out: &mut String, journey: &Journey, number: usize) -> fmt::Result {
+fn print_journey(out: &mut String, journey: &Journey, number: usize) -> Result<(), AllocError> {
     match journey.state() {
         State::UnderWay => return print_place(out, journey, number),
         State::Delivered => {
             print_path(out, journey, number)?;
-            out.write_str(" arrived")?;
+            out.push_str(" arrived")?;
         }
         State::Dropped(fault) => {
             print_path(out, journey, number)?;
-            out.write_str(" dropped")?;
+            out.push_str(" dropped")?;
             print_fault(out, fault)?;
         }
     }
@@ -100,12 +99,12 @@ fn print_journey(out: &mut String, journey: &Journey, number: usize) -> fmt::Res
     writeln!(out, " cost {cost}")
 }
 
-fn print_place(out: &mut String, journey: &Journey, number: usize) -> fmt::Result {
+fn print_place(out: &mut String, journey: &Journey, number: usize) -> Result<(), AllocError> {
     let NodeId(u) = journey.at();
     writeln!(out, "packet {number} at {u}")
 }
 
-fn print_path(out: &mut String, journey: &Journey, number: usize) -> fmt::Result {
+fn print_path(out: &mut String, journey: &Journey, number: usize) -> Result<(), AllocError> {
     write!(out, "packet {number}:")?;
     for NodeId(u) in journey.path() {
         write!(out, " {u}")?;
@@ -114,7 +113,7 @@ fn print_path(out: &mut String, journey: &Journey, number: usize) -> fmt::Result
 }
 
 // A space, and the number of a fault.
-fn print_fault(out: &mut String, fault: Fault) -> fmt::Result {
+fn print_fault(out: &mut String, fault: Fault) -> Result<(), AllocError> {
     match fault.number() {
         Some(n) => write!(out, " {n}"),
         None => Ok(()),
@@ -122,33 +121,33 @@ fn print_fault(out: &mut String, fault: Fault) -> fmt::Result {
 }
 
 // A line for each router.
-pub fn print_state(out: &mut String, network: &Network) -> fmt::Result {
+pub fn print_state(out: &mut String, network: &Network) -> Result<(), AllocError> {
     let nodes = network.nodes();
     for u in 0..nodes {
         if let Some(router) = network.router(NodeId(u)) {
             write!(out, "router {u}: down")?;
             print_switching(out, router, nodes)?;
-            out.write_str("; table")?;
+            out.push_str("; table")?;
             print_table(out, router, nodes)?;
-            out.write_str("\n")?;
+            out.push_str("\n")?;
         }
     }
     Ok(())
 }
 
 // The failure that a router knows of, for which destinations it has switched, and whom it waits for.
-fn print_switching(out: &mut String, router: &Router, nodes: u8) -> fmt::Result {
+fn print_switching(out: &mut String, router: &Router, nodes: u8) -> Result<(), AllocError> {
     let Some(link) = router.forwarder().failure() else {
-        return out.write_str(" none; switched none; waits none");
+        return out.push_str(" none; switched none; waits none");
     };
     let (a, b) = (link.a.0, link.b.0);
     write!(out, " {a}-{b}; switched")?;
     print_switched(out, router, nodes)?;
-    out.write_str("; waits")?;
+    out.push_str("; waits")?;
     print_pending(out, router, nodes)
 }
 
-fn print_switched(out: &mut String, router: &Router, nodes: u8) -> fmt::Result {
+fn print_switched(out: &mut String, router: &Router, nodes: u8) -> Result<(), AllocError> {
     let before = out.len();
     for d in 0..nodes {
         if router.forwarder().has_switched(NodeId(d)) {
@@ -159,7 +158,7 @@ fn print_switched(out: &mut String, router: &Router, nodes: u8) -> fmt::Result {
 }
 
 // `D<V` for each destination D for which it waits for the neighbour V.
-fn print_pending(out: &mut String, router: &Router, nodes: u8) -> fmt::Result {
+fn print_pending(out: &mut String, router: &Router, nodes: u8) -> Result<(), AllocError> {
     let before = out.len();
     for d in 0..nodes {
         for v in 0..nodes {
@@ -172,18 +171,18 @@ fn print_pending(out: &mut String, router: &Router, nodes: u8) -> fmt::Result {
 }
 
 // `none` where nothing was printed since.
-fn none_since(out: &mut String, before: usize) -> fmt::Result {
+fn none_since(out: &mut String, before: usize) -> Result<(), AllocError> {
     if out.len() == before {
-        out.write_str(" none")?;
+        out.push_str(" none")?;
     }
     Ok(())
 }
 
-fn print_table(out: &mut String, router: &Router, nodes: u8) -> fmt::Result {
+fn print_table(out: &mut String, router: &Router, nodes: u8) -> Result<(), AllocError> {
     for d in 0..nodes {
         match router.forwarder().next_hop(NodeId(d)) {
             Some(NodeId(e)) => write!(out, " {e}")?,
-            None => out.write_str(" -")?,
+            None => out.push_str(" -")?,
         }
     }
     Ok(())
