@@ -96,7 +96,7 @@ fn ways(rt: HostRuntime) -> Result<(), Fail> {
 fn the_longer_path(rt: HostRuntime) -> Result<(), Fail> {
     let topology = ring(rt.alloc())?;
     let path = Routes::of(&topology).path(rt.alloc(), NodeId(1), NodeId(3))?;
-    assert_eq!(rt; path.as_slice(), &[NodeId(0), NodeId(1)]);
+    assert_eq!(rt; path.as_slice(), [NodeId(0), NodeId(1)].as_slice());
     Ok(())
 }
 
@@ -130,7 +130,7 @@ fn an_isolated_node(rt: HostRuntime) -> Result<(), Fail> {
     let text = plan(rt.alloc(), &topology)?;
     assert_eq!(rt;
         text.as_slice(),
-        b"places 3\ndistances\n0: 0 - 65535\n1: - 0 -\n2: 65535 - 0\ntables\n0: - - 2\n1: - - -\n2: 0 - -\ndetours\n0-2: apart unused apart\n"
+        b"places 3\ndistances\n0: 0 - 65535\n1: - 0 -\n2: 65535 - 0\ntables\n0: - - 2\n1: - - -\n2: 0 - -\ndetours\n0-2: apart unused apart\n".as_slice()
     );
     Ok(())
 }
