@@ -1,7 +1,7 @@
 -- What the tables say of the next hop that is used, and of the repair where it lies over the link that is down. Assumes nothing.
 use Rattle.std.proofs.Common.{◌≡◌, ℕ, ◌<◌, ◌≤◌, Bool, true, false, cond, ◌&&◌, eqb, List, Some, None, Option, sym, refl, ap, ◌∙◌, ap₂, inl, inr, arith}
 use mathlib.Core.Path.{fun_ext}
-use Rattle.std.proofs.lemmas.Bool.{both_ways, eqb-true, eq-eqb, and_parts, and_from, or_left, cond-true, cases_lt}
+use Rattle.std.proofs.lemmas.Bool.{both_ways, eqb-true, and_parts, cond-true, cases_lt}
 use Rattle.theory.specs.Network.{Network, Lawful, LinkId, joins, without}
 use Rattle.theory.specs.NextHop.{next_hop, path}
 use Rattle.theory.specs.Repair as theory
@@ -15,7 +15,6 @@ use Rattle.protocol.specs.Packet.{Segment, Decision, known_down, put_repair, rep
 use Rattle.routes.proofs.Steps.{hop_outside}
 use Rattle.repairs.proofs.Right.{own_link_lem}
 use Rattle.repairs.specs.Entries.{repair_of, meaning}
-use Rattle.repairs.specs.declared.repair.Repair.{Repair}
 use Rattle.repairs.specs.declared.repair.Entry.{Entry}
 use Rattle.repairs.specs.declared.repair.Entry.TheVariants.{Unused, Apart, Via}
 use Rattle.forwarding.specs.Tables.{found, same_laid}

@@ -11,7 +11,6 @@ use Rattle.routes.specs.NextHops.{hop_of}
 use Rattle.theory.proofs.NextHops.{eq_same}
 use Rattle.repairs.specs.Table.{LinkLaid, Refused, TableAsked}
 use Rattle.repairs.specs.declared.repair.Entry.{Entry}
-use Rattle.repairs.specs.declared.repair.Entry.TheVariants.{Unused}
 use Rattle.forwarding.specs.Tables.{NoneSwitched, OwnHops, OwnRepairs, same_laid}
 
 -- one next hop more

@@ -1,5 +1,5 @@
 -- A packet that is sent on. Assumes nothing.
-use Rattle.std.proofs.Common.{◌≡◌, ℕ, suc, ◌+◌, ◌*◌, ◌<◌, ◌≤◌, Bool, true, false, cond, eqb, List, [], ◌∷◌, ◌++◌, map, Some, None, Option, unwrap_or, sym, refl, ap, ◌∙◌, ap₂, arith}
+use Rattle.std.proofs.Common.{◌≡◌, ℕ, suc, ◌+◌, ◌*◌, ◌<◌, ◌≤◌, Bool, true, false, cond, eqb, List, [], ◌∷◌, ◌++◌, Some, None, unwrap_or, sym, refl, ap, ◌∙◌, arith}
 use Rattle.std.proofs.lemmas.Bool.{eqb-true}
 use Rattle.links.specs.declared.node.NodeId.{NodeId}
 use Rattle.routes.specs.Costs.{link_cost}
@@ -11,7 +11,7 @@ use Rattle.protocol.specs.System as protocol
 use Rattle.protocol.proofs.Sending.{forward_sends}
 use Rattle.journeys.specs.Journeys.{in_state, sent_to, next_node}
 use Rattle.journeys.specs.declared.journey.State.{State}
-use Rattle.journeys.specs.declared.journey.State.TheVariants.{UnderWay, Delivered, Dropped}
+use Rattle.journeys.specs.declared.journey.State.TheVariants.{UnderWay}
 
 -- what has been spent, and what may still be, stays within bounds
 pub bounded_on : (s : Router) (p q : Packet) (v c k : ℕ) → Send v q ≡ forward s p → k < 65536 → c + p.hop_limit * 65535 ≤ 4294836225 → c + k + q.hop_limit * 65535 ≤ 4294836225

@@ -1,5 +1,5 @@
 -- Messages that arrive. Assumes nothing.
-use Rattle.std.proofs.Common.{◌≡◌, ℕ, zero, suc, ◌+◌, ◌<◌, ◌≤◌, Bool, true, false, cond, ◌||◌, eqb, ltb, ◌⊎◌, List, [], ◌∷◌, ◌++◌, map, length, get_or, set, Some, None, Ok, Err, vec_items, Result, sym, refl, ap, ◌∙◌, subst, ap₂, inl, inr, arith}
+use Rattle.std.proofs.Common.{◌≡◌, ℕ, zero, suc, ◌<◌, ◌≤◌, Bool, true, false, cond, ◌||◌, eqb, ltb, ◌⊎◌, List, [], ◌∷◌, ◌++◌, length, get_or, set, Some, Ok, Err, vec_items, Result, sym, refl, ap, ◌∙◌, subst, ap₂, inl, inr, arith}
 use mathlib.Core.Path.{fun_ext}
 use Rattle.std.proofs.lemmas.List.{get_or_past, get_or_at, get_or_append_left, length_push, get_or-set_same, get_or-set_other}
 use Rattle.std.proofs.lemmas.Bool.{cases_lt, cases_eq, eq-eqb, ne_eqb, cond-true, cond-false, and_parts, ltb-true, both_ways}
@@ -15,7 +15,7 @@ use Rattle.network.specs.Events.{SameArrivals, ByMemory, HeardAs, Becomes, Came,
 use Rattle.network.specs.Model.{system, has_come, path_of_packet}
 use Rattle.network.specs.declared.network.Network.{Network}
 use Rattle.network.specs.declared.arrival.Arrival.{Arrival}
-use Rattle.network.specs.declared.arrival.Arrival.TheVariants.{NotYet, Again, Over}
+use Rattle.network.specs.declared.arrival.Arrival.TheVariants.{NotYet}
 
 -- an entry that says what was so without it
 pub room_more : (old now new : List Arrival) → SameArrivals old now → new ≡ now ++ NotYet ∷ [] → SameArrivals old new

@@ -1,5 +1,5 @@
 -- Packets that are put, and that move. Assumes nothing.
-use Rattle.std.proofs.Common.{◌≡◌, ℕ, ◌+◌, ◌<◌, ◌≤◌, Bool, true, false, cond, eqb, List, [], ◌∷◌, ◌++◌, map, length, get_or, set, Ok, Err, vec_items, Result, sym, refl, ap, ◌∙◌, subst, ap₂, inl, inr, arith}
+use Rattle.std.proofs.Common.{◌≡◌, ℕ, ◌<◌, ◌≤◌, cond, eqb, List, [], ◌∷◌, ◌++◌, map, length, get_or, set, Ok, Err, vec_items, Result, sym, refl, ap, ◌∙◌, subst, ap₂, inl, inr, arith}
 use mathlib.Core.Path.{fun_ext}
 use Rattle.std.proofs.lemmas.List.{get_or_past, length-map}
 use Rattle.std.proofs.lemmas.Bool.{cond-true, cond-false, eq-eqb, ne_eqb, cases_eq}
@@ -8,7 +8,7 @@ use Rattle.links.specs.declared.fault.Fault.TheVariants.{Memory}
 use Rattle.messages.specs.declared.message.Sent.{Sent}
 use Rattle.protocol.specs.Packet.{Packet}
 use Rattle.protocol.specs.Router as protocol
-use Rattle.protocol.specs.System.{System, Flight, NoPacket, UnderWay, Delivered, Dropped, step, moved, set_flight, put_on, Put, Hop}
+use Rattle.protocol.specs.System.{System, Flight, NoPacket, UnderWay, Delivered, Dropped, step, moved, put_on, Put, Hop}
 use Rattle.switchover.specs.Model.{model}
 use Rattle.switchover.specs.declared.router.Router.{Router}
 use Rattle.journeys.specs.Journeys.{flight_of, path_of, node_in, next_node, Moved}

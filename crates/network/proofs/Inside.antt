@@ -1,10 +1,8 @@
 -- Routers are at their nodes, and packets at routers. Assumes nothing.
-use Rattle.std.proofs.Common.{◌≡◌, ℕ, zero, suc, ◌+◌, ◌<◌, ◌≤◌, Bool, true, false, cond, ◌&&◌, eqb, ltb, List, [], ◌∷◌, ◌++◌, length, get_or, set, sym, refl, ap, ◌∙◌, subst, arith}
+use Rattle.std.proofs.Common.{◌≡◌, ℕ, zero, suc, ◌+◌, ◌<◌, Bool, true, false, cond, eqb, ltb, List, [], ◌∷◌, ◌++◌, length, get_or, set, sym, refl, ap, ◌∙◌, subst, arith}
 use Rattle.std.proofs.lemmas.Bool.{and_parts, and_from, eqb-true, eq-eqb, ltb-true, lt-ltb}
-use Rattle.theory.specs.Network.{Lawful}
 use Rattle.routes.proofs.Costs.{matrix_lawful}
-use Rattle.protocol.specs.Packet.{Packet, Decision, Deliver, Send, Drop, forward}
-use Rattle.protocol.specs.Router as protocol
+use Rattle.protocol.specs.Packet.{Decision, Deliver, Send, Drop, forward}
 use Rattle.protocol.specs.System.{Flight, NoPacket, UnderWay, Delivered, Dropped, decided, moved}
 use Rattle.protocol.proofs.Sending.{forward_sends}
 use Rattle.switchover.specs.Model.{model}

@@ -1,11 +1,11 @@
 -- Routers in a list by their nodes. Assumes nothing.
-use Rattle.std.proofs.Common.{◌≡◌, ℕ, zero, suc, ◌+◌, ◌<◌, ◌≤◌, Bool, true, false, cond, eqb, ltb, List, [], ◌∷◌, ◌++◌, length, Some, None, Option, sym, refl, ap, ◌∙◌, subst, ap₂, inl, inr, arith}
+use Rattle.std.proofs.Common.{◌≡◌, ℕ, zero, suc, ◌+◌, Bool, true, false, cond, ltb, List, [], ◌∷◌, ◌++◌, length, sym, refl, ap, ◌∙◌, subst, ap₂, inl, inr, arith}
 use mathlib.Core.Path.{fun_ext}
 use Rattle.std.proofs.lemmas.Bool.{cond-true, cond-false, lt-ltb, le-ltb, cases_lt, eq-eqb, and_from, both_ways}
 use Rattle.theory.specs.Network as theory
-use Rattle.protocol.specs.Failed.{Calm, Stale}
-use Rattle.protocol.specs.Router.{idle, Sent, NoFailure}
-use Rattle.protocol.specs.System.{nth, System, NoPacket}
+use Rattle.protocol.specs.Failed.{Calm}
+use Rattle.protocol.specs.Router.{idle, NoFailure}
+use Rattle.protocol.specs.System.{nth, NoPacket}
 use Rattle.std.proofs.lemmas.List.{length_push}
 use Rattle.switchover.specs.Model.{model}
 use Rattle.switchover.specs.declared.router.Router.{Router}

@@ -1,18 +1,17 @@
 -- Packets that are played to their end. Assumes nothing.
-use Rattle.std.proofs.Common.{◌≡◌, ℕ, zero, suc, ◌<◌, Bool, true, false, cond, eqb, List, Ok, Err, Result, sym, refl, ap, ◌∙◌, subst, arith}
+use Rattle.std.proofs.Common.{◌≡◌, ℕ, suc, ◌<◌, true, false, eqb, Ok, Err, Result, sym, refl, ap, ◌∙◌, subst, arith}
 use Rattle.std.proofs.lemmas.Bool.{both_ways, cond-true, eq-eqb}
 use Rattle.theory.specs.Network.{without}
 use Rattle.links.specs.declared.fault.Fault.{Fault}
 use Rattle.protocol.specs.Delivery.{Deliverable}
-use Rattle.protocol.specs.Failed.{after, Failed}
-use Rattle.protocol.specs.Packet.{Packet, Decision, Deliver, Send, Drop, forward}
+use Rattle.protocol.specs.Packet.{Decision, Deliver, Send, Drop, forward}
 use Rattle.protocol.specs.Playing.{hops, is_under_way, Brought}
 use Rattle.protocol.specs.Router as protocol
 use Rattle.protocol.specs.System.{System, Flight, NoPacket, UnderWay, Delivered, Dropped, decided, moved, step, run, Hop}
 use Rattle.protocol.proofs.Playing.{hop_last, played_out, played_calm}
 use Rattle.protocol.proofs.Sending.{forward_sends}
 use Rattle.network.specs.Model.{system}
-use Rattle.network.specs.Playing.{OtherPaths, Hopped, Played, PlayAsked, Promised}
+use Rattle.network.specs.Playing.{OtherPaths, Hopped, PlayAsked, Promised}
 use Rattle.network.specs.declared.network.Network.{Network}
 
 -- how often a packet may still be handled

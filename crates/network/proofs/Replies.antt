@@ -1,5 +1,5 @@
 -- A router of the network that was asked goes on, and all others stay. Assumes nothing.
-use Rattle.std.proofs.Common.{◌≡◌, ℕ, ◌+◌, ◌<◌, ◌≤◌, Bool, true, false, cond, not, ◌&&◌, ◌||◌, eqb, ◌⊎◌, List, [], ◌∷◌, ◌++◌, map, length, get_or, set, Ok, Err, vec_items, Result, sym, refl, ap, ◌∙◌, subst, ap₂, inl, inr, arith, length-set}
+use Rattle.std.proofs.Common.{◌≡◌, ℕ, ◌<◌, ◌≤◌, Bool, true, false, cond, not, ◌&&◌, eqb, ◌⊎◌, List, map, length, get_or, set, Ok, Err, vec_items, Result, sym, refl, ap, ◌∙◌, subst, ap₂, inl, inr, arith, length-set}
 use mathlib.Core.Path.{fun_ext}
 use Rattle.std.proofs.lemmas.List.{get_or_past, length-map}
 use Rattle.links.specs.declared.fault.Fault.{Fault}
@@ -9,7 +9,7 @@ use Rattle.messages.specs.declared.message.Sent.{Sent}
 use Rattle.protocol.specs.Hearing.{hear, down_in, switched_in, waits_for, came_early}
 use Rattle.protocol.specs.Router as protocol
 use Rattle.protocol.specs.Switching.{all_below, mark, may_in, after_switch, says, switch_in, switch}
-use Rattle.protocol.specs.System.{System, set_router, go_on}
+use Rattle.protocol.specs.System.{System, go_on}
 use Rattle.switchover.specs.Model.{model}
 use Rattle.switchover.specs.Replies.{Answered, RefusedBy}
 use Rattle.switchover.specs.declared.router.Router.{Router}

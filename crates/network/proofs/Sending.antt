@@ -1,18 +1,18 @@
 -- A packet that is sent arrives. Assumes nothing.
-use Rattle.std.proofs.Common.{◌≡◌, ℕ, ◌+◌, ◌<◌, ◌≤◌, Bool, true, false, cond, eqb, List, [], ◌∷◌, ◌++◌, length, vec_items, sym, refl, ap, ◌∙◌, subst, arith}
+use Rattle.std.proofs.Common.{◌≡◌, ℕ, ◌<◌, ◌≤◌, eqb, List, [], ◌∷◌, ◌++◌, length, vec_items, sym, refl, ap, ◌∙◌, subst, arith}
 use Rattle.std.proofs.lemmas.Bool.{cond-true, eq-eqb}
 use Rattle.theory.specs.Network as theory
 use Rattle.theory.specs.Network.{without, Lawful, LinkId}
 use Rattle.packets.specs.Packets.{fresh}
-use Rattle.protocol.specs.Delivery.{Reachable, Deliverable, enough_hops}
-use Rattle.protocol.specs.Failed.{after, Calm, Failed}
+use Rattle.protocol.specs.Delivery.{Reachable, Deliverable}
+use Rattle.protocol.specs.Failed.{after, Calm}
 use Rattle.protocol.specs.Packet.{Packet, Segment}
-use Rattle.protocol.specs.Playing.{hops, is_under_way, Brought}
-use Rattle.protocol.specs.System.{System, Flight, NoPacket, UnderWay, Event, Put, step, run, fails, put_on}
+use Rattle.protocol.specs.Playing.{hops, Brought}
+use Rattle.protocol.specs.System.{System, NoPacket, Event, Put, step, run, fails, put_on}
 use Rattle.protocol.proofs.Delivered.{within_limit}
 use Rattle.protocol.proofs.Playing.{run_after}
 use Rattle.network.specs.Model.{system}
-use Rattle.network.specs.Playing.{packets_in, OtherPaths, WasPut, Played, ArrivesAfter, ArrivesCalm, WasSent, SentPast, SendsAfter, SendsCalm, Sends}
+use Rattle.network.specs.Playing.{WasPut, Played, ArrivesAfter, ArrivesCalm, SendsAfter, Sends}
 use Rattle.network.specs.declared.network.Network.{Network}
 use Rattle.network.proofs.Hops.{no_flight}
 

@@ -1,15 +1,14 @@
 -- A packet that moves with nothing else happening arrives. Assumes nothing.
-use Rattle.std.proofs.Common.{◌≡◌, ℕ, zero, suc, ◌+◌, ◌≤◌, Bool, true, false, List, [], ◌∷◌, ◌++◌, length, Some, sym, refl, ap, ◌∙◌, subst}
+use Rattle.std.proofs.Common.{◌≡◌, ℕ, zero, suc, ◌+◌, ◌≤◌, true, false, List, [], ◌∷◌, ◌++◌, length, sym, refl, ap, subst}
 use Rattle.std.proofs.lemmas.Bool.{both_ways}
 use Rattle.protocol.specs.Costs.{Aims, NotYet, Spends}
 use Rattle.protocol.specs.Delivery.{Safe, Arrived, Deliverable, repairs}
-use Rattle.protocol.specs.Failed.{after, Failed}
-use Rattle.protocol.specs.Packet.{Segment}
-use Rattle.protocol.specs.Playing.{hops, flown, is_under_way, Brought, PlayedOut, PlayedCalm}
+use Rattle.protocol.specs.Failed.{after}
+use Rattle.protocol.specs.Playing.{hops, flown, is_under_way, PlayedOut, PlayedCalm}
 use Rattle.protocol.specs.System.{run, step, fails, System, Flight, NoPacket, UnderWay, Delivered, Dropped, Event, Hop}
 use Rattle.protocol.proofs.Spending.{once_for_aim, repair_cost}
 use Rattle.protocol.proofs.Delivered.{delivery, repaired_once, calm_delivery}
-use Rattle.theory.specs.Network.{without, Network, LinkId}
+use Rattle.theory.specs.Network.{without}
 
 -- one run after another
 pub run_after : (es fs : List Event) (σ : System) → run fs (run es σ) ≡ run (es ++ fs) σ

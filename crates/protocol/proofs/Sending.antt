@@ -1,13 +1,13 @@
 -- What is known of a packet that a router sends: it has a hop less, and goes to a neighbour. Assumes nothing.
-use Rattle.std.proofs.Common.{◌≡◌, ℕ, zero, suc, ◌+◌, ◌-◌, ◌<◌, Bool, true, false, cond, not, ◌&&◌, eqb, ltb, leb, List, [], ◌∷◌, length, Some, None, Option, sym, refl, ap, ◌∙◌, subst, inl, inr, arith}
-use Rattle.std.proofs.lemmas.Bool.{cases_Bool, eqb-true, eqb-false, ltb-true, and_parts}
-use Rattle.theory.specs.Network.{without, Network}
+use Rattle.std.proofs.Common.{◌≡◌, ℕ, zero, suc, ◌+◌, ◌-◌, ◌<◌, Bool, true, false, cond, eqb, leb, List, [], ◌∷◌, length, Some, None, Option, refl, subst, arith}
+use Rattle.std.proofs.lemmas.Bool.{eqb-true, eqb-false, ltb-true, and_parts}
+use Rattle.theory.specs.Network.{without}
 use Rattle.theory.specs.NextHop.{next_hop}
 use Rattle.theory.specs.Repair.{repair, Repair}
 use Rattle.theory.proofs.NextHops.{next_hop_is}
 use Rattle.theory.proofs.Without.{link_kept}
-use Rattle.protocol.specs.Router.{links_in, links_for, entry, Router, Failure, NoFailure, Down}
-use Rattle.protocol.specs.Packet.{Packet, Segment, NodeSeg, LinkSeg, Decision, Deliver, Send, Drop, strip, known_down, go_over, can_go, over_link, put_repair, repair_in, by_hop, towards, by_segments, forward_by, forward}
+use Rattle.protocol.specs.Router.{links_in, entry, Router, Failure, NoFailure, Down}
+use Rattle.protocol.specs.Packet.{Packet, Segment, NodeSeg, LinkSeg, Decision, Deliver, Send, Drop, strip, known_down, go_over, can_go, put_repair, repair_in, by_hop, towards, by_segments, forward_by, forward}
 
 pub record Sends (s : Router) (p : Packet) (v : ℕ) (q : Packet) : Type 0 where
   pub fewer : suc q.hop_limit ≡ p.hop_limit

@@ -1,5 +1,5 @@
 -- What the entry of s for its link to f does for packets to d, when the link fails. Assumes nothing.
-use Rattle.std.specs.Prelude.{◌≡◌, ℕ, List, ◌∷◌, ◌++◌, Some, None}
+use Rattle.std.specs.Prelude.{◌≡◌, ℕ, ◌∷◌, ◌++◌, Some, None}
 use Rattle.theory.specs.Network.{Network, LinkId, without}
 use Rattle.theory.specs.Distance.{distance}
 use Rattle.theory.specs.NextHop.{next_hop, path}

@@ -3,7 +3,6 @@
 use Rattle.std.proofs.Common.{◌≡◌, ℕ, zero, suc, ◌+◌, ◌<◌, List, [], ◌∷◌, ◌++◌, get_or, codes, decimal, sym, refl, ap, ◌∙◌, ap₂, append_assoc, add-one, arith}
 use Rattle.std.proofs.lemmas.List.{append-nil}
 use Rattle.report.specs.Text.{cells, row, rows, part, of_ends, detour, tables}
-use Rattle.theory.specs.Repair.{Unused}
 use Rattle.theory.specs.Network.{Network}
 use Rattle.repairs.specs.Table.{RowLaid}
 use Rattle.repairs.specs.Entries.{meaning}

@@ -1,7 +1,7 @@
 -- Forwarding looks only at the node, its links, the failure, and which destinations have switched. Assumes nothing.
 use Rattle.std.proofs.Common.{◌≡◌, ℕ, zero, suc, Bool, cond, eqb, List, [], ◌∷◌, Some, None, Option, refl, ap, ◌∙◌}
 use mathlib.Core.Path.{fun_ext}
-use Rattle.theory.specs.Network.{Network, LinkId}
+use Rattle.theory.specs.Network.{LinkId}
 use Rattle.protocol.specs.Router.{Router, Early, Failure, NoFailure, Down, entry}
 use Rattle.protocol.specs.Packet.{Packet, Segment, NodeSeg, LinkSeg, Decision, Deliver, strip, repair_in, known_down, go_over, by_hop, by_segments, forward_by, forward}
 

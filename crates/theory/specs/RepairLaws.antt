@@ -1,5 +1,5 @@
 -- The laws of networks without a link, and of repairs, for every lawful network and every link of it. Assumes nothing.
-use Rattle.std.specs.Prelude.{◌≡◌, ℕ, ◌+◌, ◌<◌, ◌≤◌, Bool, true, false, ◌⊎◌, ◌↔◌, ◌∷◌, ◌++◌, Some, None, ◌≢◌}
+use Rattle.std.specs.Prelude.{◌≡◌, ℕ, ◌+◌, ◌<◌, ◌≤◌, true, false, ◌⊎◌, ◌↔◌, ◌∷◌, ◌++◌, Some, None, ◌≢◌}
 use Rattle.theory.specs.Network.{Network, Lawful, LinkId, joins, without}
 use Rattle.theory.specs.Distance.{distance}
 use Rattle.theory.specs.NextHop.{next_hop, path, uses}

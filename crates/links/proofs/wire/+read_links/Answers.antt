@@ -1,4 +1,4 @@
-use Rattle.std.proofs.Common.{◌≡◌, ◌-◌, [], sym, refl, ap, ◌∙◌, ap₂, inr, append-nil, arith}
+use Rattle.std.proofs.Common.{◌-◌, [], sym, ap, ◌∙◌, ap₂, inr, append-nil, arith}
 use Rattle.links.specs.Wire.{link_fault, with_link, read_links}
 use Rattle.links.proofs.Pieces.{read_end, read_trailing, read_truncated, read_refused, read_link, collects_link}
 use Rattle.links.proofs.wire.+read_links.Goals as goal

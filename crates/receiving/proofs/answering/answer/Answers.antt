@@ -1,4 +1,4 @@
-use Rattle.std.proofs.Common.{vec_items, refl, inr}
+use Rattle.std.proofs.Common.{refl, inr}
 use Rattle.std.proofs.lemmas.Result.{err_from_is_err_and}
 use Rattle.switchover.specs.Model.{model}
 use Rattle.receiving.specs.Frames.{neighbourly}

@@ -1,7 +1,7 @@
 use Rattle.std.proofs.lemmas.Result.{err_from_is_err_and}
 use Rattle.std.proofs.Common.{vec_items}
 use Rattle.switchover.specs.Model.{model}
-use Rattle.receiving.proofs.Switches.{none_asked, one_more, none_left, broken}
+use Rattle.receiving.proofs.Switches.{none_asked, one_more, broken}
 use Rattle.receiving.proofs.settling.settle.Goals as goal
 
 pub loop-destination-init : goal.loop-destination-init

@@ -1,4 +1,4 @@
-use Rattle.std.proofs.Common.{sym, ◌∙◌, arith}
+use Rattle.std.proofs.Common.{sym, arith}
 use Rattle.theory.proofs.HopPaths.{hops_fall}
 use Rattle.routes.specs.Matrix.{matrix_network}
 use Rattle.routes.specs.Routes.{routes_network}

@@ -1,4 +1,4 @@
-use Rattle.std.proofs.Common.{◌≡◌, ◌+◌, ◌-◌, ◌*◌, length, ◌∙◌, arith}
+use Rattle.std.proofs.Common.{◌∙◌, arith}
 use Rattle.routes.specs.Routes.{routes_network}
 use Rattle.routes.proofs.Costs.{matrix_lawful}
 use Rattle.std.proofs.lemmas.List.{length-take, length-drop}

@@ -1,4 +1,4 @@
-use Rattle.std.proofs.Common.{◌≡◌, refl, ap, ◌∙◌, inl, inr}
+use Rattle.std.proofs.Common.{refl, ap, ◌∙◌, inl, inr}
 use Rattle.routes.specs.Costs.{link_cost}
 use Rattle.routes.specs.Routes.{routes_network}
 use Rattle.repairs.proofs.Found.{no_cost, some_cost}

@@ -1,4 +1,4 @@
-use Rattle.std.proofs.Common.{◌≡◌, [], ◌∷◌, ◌++◌, vec_items, decimal, sym, ap, ◌∙◌}
+use Rattle.std.proofs.Common.{[], ◌∷◌, ◌++◌, vec_items, decimal, sym, ap, ◌∙◌}
 use Rattle.repairs.specs.Entries.{meaning}
 use Rattle.report.specs.Text.{link_name, laid_text}
 use Rattle.report.proofs.Texts.{three}

@@ -1,7 +1,5 @@
-use Rattle.std.proofs.Common.{◌++◌, vec_items, codes, decimal, ap, ◌∙◌}
+use Rattle.std.proofs.Common.{vec_items}
 use Rattle.routes.specs.Routes.{routes_network}
-use Rattle.report.specs.Text.{part}
-use Rattle.report.specs.declared.tables.Part.TheVariants.{Distances, Tables}
 use Rattle.report.proofs.Texts.{tables_text}
 use Rattle.report.proofs.tables.push_tables.Goals as goal
 

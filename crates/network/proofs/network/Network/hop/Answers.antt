@@ -1,4 +1,4 @@
-use Rattle.std.proofs.Common.{◌≡◌, ℕ, ◌<◌, ◌≤◌, true, List, length, get_or, vec_items, sym, refl, ap, ◌∙◌, ap₂, arith}
+use Rattle.std.proofs.Common.{◌≡◌, ℕ, ◌<◌, ◌≤◌, true, List, length, get_or, vec_items, refl, ap, ◌∙◌, ap₂, arith}
 use Rattle.switchover.specs.declared.router.Router.{Router}
 use Rattle.switchover.specs.Model.{model}
 use Rattle.journeys.specs.Journeys.{flight_of, node_in}

@@ -1,4 +1,4 @@
-use Rattle.network.proofs.Untouched.{none_switched, one_more, some_switched}
+use Rattle.network.proofs.Untouched.{none_switched, one_more}
 use Rattle.network.proofs.network.Network.switch_untouched.Goals as goal
 
 pub loop-destination-init : goal.loop-destination-init

@@ -1,8 +1,8 @@
-use Rattle.std.proofs.Common.{◌≡◌, suc, ◌-◌, ◌<◌, length, get_or, take, sym, refl, ap, ◌∙◌, subst, arith, rules}
+use Rattle.std.proofs.Common.{◌≡◌, ◌-◌, length, get_or, take, sym, refl, ap, ◌∙◌, subst, arith, rules}
 use Rattle.routes.specs.Dijkstra.{relaxed, number_at, Below, Nearest, NoneNearer}
 use Rattle.routes.specs.Matrix.{matrix_network}
 use Rattle.routes.proofs.Costs.{matrix_lawful, matrix_limited}
-use Rattle.routes.proofs.Settled.{Standing, stands_none, stands_within, stands_more, stands_all, stands_small, some_left}
+use Rattle.routes.proofs.Settled.{stands_none, stands_within, stands_more, stands_all, stands_small, some_left}
 use Rattle.routes.proofs.matrix.CostMatrix.settle.Goals as goal
 
 pub loop-i-init : goal.loop-i-init
