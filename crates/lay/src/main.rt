@@ -4,9 +4,9 @@
 use console::{Ending, ended, fault_said, input, topology};
 use links::topology::Topology;
 use report::plan;
-use std::env;
 use std::io::Write;
 use std::process::ExitCode;
+use std::{env, fs};
 use summary::summary;
 
 mod summary;
@@ -62,6 +62,14 @@ fn print_help(rt: &HostRuntime) -> Result<(), Ending> {
     Ok(())
 }
 
+// The bytes of the file, or of standard input where none is named.
+fn list(rt: &HostRuntime, file: Option<String>) -> Result<Vec<u8>, Ending> {
+    match file {
+        Some(path) => Ok(fs::read(rt, path.as_str())?),
+        None => input(rt, None),
+    }
+}
+
 // The plan, which is worked out whole before anything is printed.
 fn print_plan(rt: &HostRuntime, topology: &Topology) -> Result<(), Ending> {
     match plan(rt.alloc(), topology) {
@@ -75,7 +83,7 @@ fn run(rt: &HostRuntime) -> Result<(), Ending> {
         Request::Help => return print_help(rt),
         Request::Lay(file, brief) => (file, brief),
     };
-    let list = input(rt, file)?;
+    let list = list(rt, file)?;
     let topology = topology(rt.alloc(), list.as_slice())?;
     if brief {
         let text = summary(rt.alloc(), &topology)?;
