@@ -4,7 +4,7 @@
 #[cfg(test)]
 mod bytes;
 #[cfg(test)]
-mod forwarding;
+mod handed_on;
 #[cfg(test)]
 mod lists;
 #[cfg(test)]
