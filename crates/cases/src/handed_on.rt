@@ -1,18 +1,38 @@
 // What becomes of a packet at one router, in a whole network and beside a failed link.
-use crate::networks::{PAIR, RING, read};
+use crate::networks::{FAILED, PAIR, RING, segments_of};
 use forwarding::forwarder::Forwarder;
-use links::link::LinkId;
+use forwarding::outcome::Outcome;
+use links::fault::Fault;
 use links::node::NodeId;
+use links::topology::Topology;
 use packets::packet::Packet;
 use packets::segment::Segment;
-use packets::sender::SenderSegments;
-use router::outcome::Outcome;
-use router::router::Router;
 use std::alloc::Global;
+use std::process::Abort;
 use std::test::Fail;
 
-// At a router, which knows the link 0-1 to be down or not: the neighbour that the packet is sent to and how many
-// segments it then has, or the number of the fault that drops it; neither where it is delivered.
+// What becomes of a packet at a router: where it is sent, to which neighbour, and how many segments it then has.
+#[derive(Clone, Copy, PartialEq, Eq, Debug)]
+enum Fate {
+    Delivered,
+    Sent { to: NodeId, segments: u8 },
+    Dropped(Fault),
+}
+
+impl From<Outcome> for Fate {
+    fn from(outcome: Outcome) -> Fate {
+        match outcome {
+            Outcome::Delivered => Fate::Delivered,
+            Outcome::Sent { to, packet } => Fate::Sent {
+                to,
+                segments: packet.count(),
+            },
+            Outcome::Dropped(fault) => Fate::Dropped(fault),
+        }
+    }
+}
+
+// A packet at a router that knows the link 0-1 to be down, or does not.
 struct Case {
     name: &'static str,
     bytes: &'static [u8],
@@ -20,8 +40,7 @@ struct Case {
     down: bool,
     destination: u8,
     segments: &'static [Segment],
-    sent: Option<(u8, u8)>,
-    dropped: Option<u8>,
+    fate: Fate,
 }
 
 const CASES: [Case; 9] = [
@@ -32,8 +51,7 @@ const CASES: [Case; 9] = [
         down: false,
         destination: 1,
         segments: &[],
-        sent: None,
-        dropped: None,
+        fate: Fate::Delivered,
     },
     Case {
         name: "by the next hop",
@@ -42,8 +60,10 @@ const CASES: [Case; 9] = [
         down: false,
         destination: 2,
         segments: &[],
-        sent: Some((1, 0)),
-        dropped: None,
+        fate: Fate::Sent {
+            to: NodeId(1),
+            segments: 0,
+        },
     },
     Case {
         name: "by a repair",
@@ -52,8 +72,10 @@ const CASES: [Case; 9] = [
         down: true,
         destination: 2,
         segments: &[],
-        sent: Some((3, 2)),
-        dropped: None,
+        fate: Fate::Sent {
+            to: NodeId(3),
+            segments: 2,
+        },
     },
     Case {
         name: "by a repair, its own segment stays",
@@ -62,8 +84,10 @@ const CASES: [Case; 9] = [
         down: true,
         destination: 3,
         segments: &[Segment::Node(NodeId(1))],
-        sent: Some((3, 3)),
-        dropped: None,
+        fate: Fate::Sent {
+            to: NodeId(3),
+            segments: 3,
+        },
     },
     Case {
         name: "own segments are taken off",
@@ -76,8 +100,10 @@ const CASES: [Case; 9] = [
             Segment::Node(NodeId(0)),
             Segment::Node(NodeId(3)),
         ],
-        sent: Some((3, 1)),
-        dropped: None,
+        fate: Fate::Sent {
+            to: NodeId(3),
+            segments: 1,
+        },
     },
     Case {
         name: "over the link of a segment",
@@ -89,8 +115,10 @@ const CASES: [Case; 9] = [
             from: NodeId(0),
             to: NodeId(3),
         }],
-        sent: Some((3, 0)),
-        dropped: None,
+        fate: Fate::Sent {
+            to: NodeId(3),
+            segments: 0,
+        },
     },
     Case {
         name: "a segment's link that is down",
@@ -102,8 +130,7 @@ const CASES: [Case; 9] = [
             from: NodeId(0),
             to: NodeId(1),
         }],
-        sent: None,
-        dropped: Some(9),
+        fate: Fate::Dropped(Fault::SegmentLinkDown),
     },
     Case {
         name: "no repair",
@@ -112,8 +139,7 @@ const CASES: [Case; 9] = [
         down: true,
         destination: 1,
         segments: &[],
-        sent: None,
-        dropped: Some(7),
+        fate: Fate::Dropped(Fault::NoRepair),
     },
     Case {
         name: "no such node",
@@ -122,72 +148,41 @@ const CASES: [Case; 9] = [
         down: false,
         destination: 64,
         segments: &[],
-        sent: None,
-        dropped: Some(7),
+        fate: Fate::Dropped(Fault::NoNextHop),
     },
 ];
 
-fn router_of(heap: Global, case: &Case) -> Result<Router, Fail> {
-    let topology = read(heap, case.bytes)?;
-    let mut router = Router::new(&topology, NodeId(case.at))?;
-    if case.down {
-        router.fail(LinkId {
-            a: NodeId(0),
-            b: NodeId(1),
-        })?;
+// Each packet, at a router that learns of a failure in this way.
+fn check<F: Fn(&mut Forwarder) -> Result<(), Fault>>(
+    rt: &impl Abort,
+    heap: Global,
+    learn: F,
+) -> Result<(), Fail>
+    requires { F.IsAlwaysCallable learn }
+{
+    for case in CASES.iter() {
+        let topology = Topology::read(heap, case.bytes)?;
+        let mut forwarder = Forwarder::new(&topology, NodeId(case.at))?;
+        if case.down {
+            learn(&mut forwarder)?;
+        }
+        let packet = Packet::new(NodeId(case.destination), segments_of(case.segments)?);
+        let fate = Fate::from(forwarder.forward(packet));
+        assert_eq!(rt; fate, case.fate, "{}", case.name);
     }
-    Ok(router)
+    Ok(())
 }
 
 #[test]
 fn forwarded(rt: HostRuntime) -> Result<(), Fail> {
-    for case in CASES.iter() {
-        let router = router_of(rt.alloc(), case)?;
-        let mut segments = SenderSegments::new();
-        for segment in case.segments.iter() {
-            segments.push(*segment)?;
-        }
-        let packet = Packet::new(NodeId(case.destination), segments);
-        let found = match router.forward(packet) {
-            Outcome::Delivered => (None, None),
-            Outcome::Sent { to, packet } => (Some((to.0, packet.count())), None),
-            Outcome::Dropped(fault) => (None, fault.number()),
-        };
-        assert_eq!(rt; found, (case.sent, case.dropped), "{}", case.name);
-    }
-    Ok(())
+    check(&rt, rt.alloc(), |forwarder| forwarder.fail(FAILED))
 }
 
-fn forwarder_of(heap: Global, case: &Case) -> Result<Forwarder, Fail> {
-    let topology = read(heap, case.bytes)?;
-    let mut forwarder = Forwarder::new(&topology, NodeId(case.at))?;
-    if case.down {
-        forwarder.learn(LinkId {
-            a: NodeId(0),
-            b: NodeId(1),
-        });
-    }
-    Ok(forwarder)
-}
-
-// The same packets by what forwards in a router that switches.
+// The same packets where the router learns of the failure, as one that switches does.
 #[test]
-fn forwarded_by_forwarder(rt: HostRuntime) -> Result<(), Fail> {
-    for case in CASES.iter() {
-        let forwarder = forwarder_of(rt.alloc(), case)?;
-        let mut segments = SenderSegments::new();
-        for segment in case.segments.iter() {
-            segments.push(*segment)?;
-        }
-        let packet = Packet::new(NodeId(case.destination), segments);
-        let found = match forwarder.forward(packet) {
-            forwarding::outcome::Outcome::Delivered => (None, None),
-            forwarding::outcome::Outcome::Sent { to, packet } => {
-                (Some((to.0, packet.count())), None)
-            }
-            forwarding::outcome::Outcome::Dropped(fault) => (None, fault.number()),
-        };
-        assert_eq!(rt; found, (case.sent, case.dropped), "{}", case.name);
-    }
-    Ok(())
+fn forwarded_by_learning(rt: HostRuntime) -> Result<(), Fail> {
+    check(&rt, rt.alloc(), |forwarder| {
+        forwarder.learn(FAILED);
+        Ok(())
+    })
 }

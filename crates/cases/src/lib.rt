@@ -4,11 +4,15 @@
 #[cfg(test)]
 mod bytes;
 #[cfg(test)]
+mod faults;
+#[cfg(test)]
 mod handed_on;
 #[cfg(test)]
 mod lists;
 #[cfg(test)]
 mod networks;
+#[cfg(test)]
+mod refused;
 #[cfg(test)]
 mod repaired;
 #[cfg(test)]

@@ -1,5 +1,5 @@
 // The ring of four with all costs 1: distances, next hops, paths, and what lay prints.
-use crate::networks::{RING, read};
+use crate::networks::RING;
 use links::fault::Fault;
 use links::link::LinkId;
 use links::node::NodeId;
@@ -7,12 +7,7 @@ use links::topology::Topology;
 use report::plan;
 use routes::matrix::CostMatrix;
 use routes::routes::Routes;
-use std::alloc::Global;
 use std::test::Fail;
-
-fn ring(heap: Global) -> Result<Topology, Fail> {
-    read(heap, RING)
-}
 
 // From a to d: the distance, the next hop, and whether the path uses the link 0-1.
 struct Way {
@@ -77,7 +72,7 @@ const WAYS: [Way; 7] = [
 
 #[test]
 fn ways(rt: HostRuntime) -> Result<(), Fail> {
-    let topology = ring(rt.alloc())?;
+    let topology = Topology::read(rt.alloc(), RING)?;
     let routes = Routes::of(&topology);
     let link = LinkId {
         a: NodeId(1),
@@ -94,7 +89,7 @@ fn ways(rt: HostRuntime) -> Result<(), Fail> {
 
 #[test]
 fn the_longer_path(rt: HostRuntime) -> Result<(), Fail> {
-    let topology = ring(rt.alloc())?;
+    let topology = Topology::read(rt.alloc(), RING)?;
     let path = Routes::of(&topology).path(rt.alloc(), NodeId(1), NodeId(3))?;
     assert_eq!(rt; path.as_slice(), [NodeId(0), NodeId(1)].as_slice());
     Ok(())
@@ -102,7 +97,7 @@ fn the_longer_path(rt: HostRuntime) -> Result<(), Fail> {
 
 #[test]
 fn refused_slices_stay(rt: HostRuntime) -> Result<(), Fail> {
-    let topology = ring(rt.alloc())?;
+    let topology = Topology::read(rt.alloc(), RING)?;
     let costs = CostMatrix::of(&topology);
     let mut dist = [7u32; 4];
     assert_eq!(rt;
@@ -124,9 +119,7 @@ fn refused_slices_stay(rt: HostRuntime) -> Result<(), Fail> {
 
 #[test]
 fn an_isolated_node(rt: HostRuntime) -> Result<(), Fail> {
-    let Ok(topology) = Topology::read(rt.alloc(), &[1, 3, 0, 1, 0, 2, 255, 255]) else {
-        return Err(Fail::new("a lawful list is refused"));
-    };
+    let topology = Topology::read(rt.alloc(), &[1, 3, 0, 1, 0, 2, 255, 255])?;
     let text = plan(rt.alloc(), &topology)?;
     assert_eq!(rt;
         text.as_slice(),

@@ -1,11 +1,12 @@
 // Packets sent over whole networks in which the link 0-1 fails.
-use crate::networks::{PAIR, RING, TRIANGLE, read};
+use crate::networks::{FAILED, PAIR, RING, TRIANGLE, segments_of};
 use journeys::journey::State;
-use links::link::LinkId;
+use journeys::order::Order;
+use links::fault::Fault;
 use links::node::NodeId;
+use links::topology::Topology;
 use network::network::Network;
 use packets::segment::Segment;
-use packets::sender::SenderSegments;
 use std::alloc::Global;
 use std::process::Abort;
 use std::test::Fail;
@@ -25,15 +26,10 @@ struct Case {
     from: u8,
     to: u8,
     segments: &'static [Segment],
-    path: &'static [u8],
+    path: &'static [NodeId],
     cost: u32,
-    dropped: Option<u8>,
+    state: State,
 }
-
-const FAILED: LinkId = LinkId {
-    a: NodeId(0),
-    b: NodeId(1),
-};
 
 const CASES: [Case; 11] = [
     Case {
@@ -43,9 +39,9 @@ const CASES: [Case; 11] = [
         from: 3,
         to: 1,
         segments: &[],
-        path: &[3, 0, 1],
+        path: &[NodeId(3), NodeId(0), NodeId(1)],
         cost: 2,
-        dropped: None,
+        state: State::Delivered,
     },
     Case {
         name: "to itself",
@@ -54,9 +50,9 @@ const CASES: [Case; 11] = [
         from: 2,
         to: 2,
         segments: &[],
-        path: &[2],
+        path: &[NodeId(2)],
         cost: 0,
-        dropped: None,
+        state: State::Delivered,
     },
     Case {
         name: "F: only the ends know",
@@ -65,9 +61,9 @@ const CASES: [Case; 11] = [
         from: 3,
         to: 1,
         segments: &[],
-        path: &[3, 0, 3, 2, 1],
+        path: &[NodeId(3), NodeId(0), NodeId(3), NodeId(2), NodeId(1)],
         cost: 4,
-        dropped: None,
+        state: State::Delivered,
     },
     Case {
         name: "G: node 3 has switched",
@@ -76,9 +72,9 @@ const CASES: [Case; 11] = [
         from: 3,
         to: 1,
         segments: &[],
-        path: &[3, 2, 1],
+        path: &[NodeId(3), NodeId(2), NodeId(1)],
         cost: 2,
-        dropped: None,
+        state: State::Delivered,
     },
     Case {
         name: "G: node 0 has not",
@@ -87,9 +83,9 @@ const CASES: [Case; 11] = [
         from: 0,
         to: 1,
         segments: &[],
-        path: &[0, 3, 2, 1],
+        path: &[NodeId(0), NodeId(3), NodeId(2), NodeId(1)],
         cost: 3,
-        dropped: None,
+        state: State::Delivered,
     },
     Case {
         name: "all have switched",
@@ -98,9 +94,9 @@ const CASES: [Case; 11] = [
         from: 0,
         to: 1,
         segments: &[],
-        path: &[0, 3, 2, 1],
+        path: &[NodeId(0), NodeId(3), NodeId(2), NodeId(1)],
         cost: 3,
-        dropped: None,
+        state: State::Delivered,
     },
     Case {
         name: "a repair for each of two aims",
@@ -109,9 +105,17 @@ const CASES: [Case; 11] = [
         from: 0,
         to: 0,
         segments: &[Segment::Node(NodeId(1))],
-        path: &[0, 3, 2, 1, 2, 3, 0],
+        path: &[
+            NodeId(0),
+            NodeId(3),
+            NodeId(2),
+            NodeId(1),
+            NodeId(2),
+            NodeId(3),
+            NodeId(0),
+        ],
         cost: 6,
-        dropped: None,
+        state: State::Delivered,
     },
     Case {
         name: "over a link of the sender's",
@@ -123,9 +127,16 @@ const CASES: [Case; 11] = [
             from: NodeId(0),
             to: NodeId(3),
         }],
-        path: &[0, 3, 0, 3, 2, 1],
+        path: &[
+            NodeId(0),
+            NodeId(3),
+            NodeId(0),
+            NodeId(3),
+            NodeId(2),
+            NodeId(1),
+        ],
         cost: 5,
-        dropped: None,
+        state: State::Delivered,
     },
     Case {
         name: "over the failed link",
@@ -137,9 +148,9 @@ const CASES: [Case; 11] = [
             from: NodeId(0),
             to: NodeId(1),
         }],
-        path: &[0],
+        path: &[NodeId(0)],
         cost: 0,
-        dropped: Some(9),
+        state: State::Dropped(Fault::SegmentLinkDown),
     },
     Case {
         name: "a triangle",
@@ -148,9 +159,9 @@ const CASES: [Case; 11] = [
         from: 0,
         to: 1,
         segments: &[],
-        path: &[0, 2, 1],
+        path: &[NodeId(0), NodeId(2), NodeId(1)],
         cost: 2,
-        dropped: None,
+        state: State::Delivered,
     },
     Case {
         name: "no path is left",
@@ -159,14 +170,14 @@ const CASES: [Case; 11] = [
         from: 0,
         to: 1,
         segments: &[],
-        path: &[0],
+        path: &[NodeId(0)],
         cost: 0,
-        dropped: Some(7),
+        state: State::Dropped(Fault::NoRepair),
     },
 ];
 
 fn network_of(rt: &impl Abort, heap: Global, case: &Case) -> Result<Network, Fail> {
-    let topology = read(heap, case.bytes)?;
+    let topology = Topology::read(heap, case.bytes)?;
     let mut network = Network::new(heap, &topology)?;
     match case.before {
         Before::Nothing => {}
@@ -203,28 +214,20 @@ fn deliver_and_switch(network: &mut Network) -> Result<(), Fail> {
 fn sent(rt: HostRuntime) -> Result<(), Fail> {
     for case in CASES.iter() {
         let mut network = network_of(&rt, rt.alloc(), case)?;
-        let mut segments = SenderSegments::new();
-        for segment in case.segments.iter() {
-            segments.push(*segment)?;
-        }
-        let number = network.send(NodeId(case.from), NodeId(case.to), segments)?;
+        let number = network.send(Order {
+            start: NodeId(case.from),
+            destination: NodeId(case.to),
+            segments: segments_of(case.segments)?,
+        })?;
         let Some(journey) = network.journey(number) else {
             return Err(Fail::new("the packet is not there"));
         };
-        let dropped = match journey.state() {
-            State::Dropped(fault) => fault.number(),
-            State::UnderWay | State::Delivered => None,
-        };
         assert_eq!(rt;
-            (journey.spent(), dropped),
-            (case.cost, case.dropped),
+            (journey.path(), journey.spent(), journey.state()),
+            (case.path, case.cost, case.state),
             "{}",
             case.name
         );
-        assert_eq!(rt; journey.path().len(), case.path.len(), "{}", case.name);
-        for (node, expected) in journey.path().iter().zip(case.path.iter()) {
-            assert_eq!(rt; node.0, *expected, "{}", case.name);
-        }
     }
     Ok(())
 }

@@ -1,8 +1,9 @@
 // One router of the ring, node 0, step by step, when the link 0-1 fails.
-use crate::networks::{RING, read};
-use links::link::LinkId;
+use crate::networks::{FAILED, RING};
+use links::fault::Fault;
 use links::node::NodeId;
-use messages::message::Message;
+use links::topology::Topology;
+use messages::message::{Message, Switched};
 use std::test::Fail;
 use switchover::router::Router;
 
@@ -11,25 +12,20 @@ enum Step {
     Switch(u8),
 }
 
-// After the step: the fault, if it was refused; how many messages were said in all; for which destinations it may switch.
+// After the step: its answer; how many messages were said in all; for which destinations it may switch.
 struct Case {
     name: &'static str,
     step: Step,
-    fault: Option<u8>,
+    answer: Result<(), Fault>,
     said: usize,
-    may: (bool, bool, bool, bool),
+    may: [bool; 4],
 }
 
-const FAILED: LinkId = LinkId {
-    a: NodeId(0),
-    b: NodeId(1),
-};
-
-const SWITCHED: Message = Message::Switched {
+const SWITCHED: Message = Message::Switched(Switched {
     from: NodeId(3),
     destination: NodeId(1),
     link: FAILED,
-};
+});
 
 const CASES: [Case; 9] = [
     Case {
@@ -38,23 +34,23 @@ const CASES: [Case; 9] = [
             from: 3,
             message: Message::LinkDown(FAILED),
         },
-        fault: None,
+        answer: Ok(()),
         said: 1,
-        may: (true, false, true, true),
+        may: [true, false, true, true],
     },
     Case {
         name: "it may not switch yet",
         step: Step::Switch(1),
-        fault: None,
+        answer: Ok(()),
         said: 1,
-        may: (true, false, true, true),
+        may: [true, false, true, true],
     },
     Case {
         name: "its old next hop lies over the failed link",
         step: Step::Switch(2),
-        fault: None,
+        answer: Ok(()),
         said: 1,
-        may: (true, false, false, true),
+        may: [true, false, false, true],
     },
     Case {
         name: "a message that comes from another",
@@ -62,9 +58,9 @@ const CASES: [Case; 9] = [
             from: 1,
             message: SWITCHED,
         },
-        fault: Some(6),
+        answer: Err(Fault::NotPending),
         said: 1,
-        may: (true, false, false, true),
+        may: [true, false, false, true],
     },
     Case {
         name: "it no longer waits",
@@ -72,30 +68,30 @@ const CASES: [Case; 9] = [
             from: 3,
             message: SWITCHED,
         },
-        fault: None,
+        answer: Ok(()),
         said: 1,
-        may: (true, true, false, true),
+        may: [true, true, false, true],
     },
     Case {
         name: "the next destination",
         step: Step::Switch(1),
-        fault: None,
+        answer: Ok(()),
         said: 1,
-        may: (true, false, false, true),
+        may: [true, false, false, true],
     },
     Case {
         name: "the next",
         step: Step::Switch(0),
-        fault: None,
+        answer: Ok(()),
         said: 1,
-        may: (false, false, false, true),
+        may: [false, false, false, true],
     },
     Case {
         name: "with the last the link is taken out",
         step: Step::Switch(3),
-        fault: None,
+        answer: Ok(()),
         said: 1,
-        may: (false, false, false, false),
+        may: [false, false, false, false],
     },
     Case {
         name: "a repeat says nothing",
@@ -103,15 +99,15 @@ const CASES: [Case; 9] = [
             from: 3,
             message: Message::LinkDown(FAILED),
         },
-        fault: None,
+        answer: Ok(()),
         said: 1,
-        may: (false, false, false, false),
+        may: [false, false, false, false],
     },
 ];
 
 #[test]
 fn switched(rt: HostRuntime) -> Result<(), Fail> {
-    let topology = read(rt.alloc(), RING)?;
+    let topology = Topology::read(rt.alloc(), RING)?;
     let mut router = Router::new(rt.alloc(), &topology, NodeId(0))?;
     let mut said = Vec::new(rt.alloc());
     for case in CASES.iter() {
@@ -119,26 +115,14 @@ fn switched(rt: HostRuntime) -> Result<(), Fail> {
             Step::Hear { from, message } => router.hear(NodeId(from), message, &mut said),
             Step::Switch(destination) => router.switch(NodeId(destination), &mut said),
         };
-        let fault = match answer {
-            Ok(()) => None,
-            Err(fault) => fault.number(),
-        };
+        let may = [0, 1, 2, 3].map(|d| router.may_switch(NodeId(d)));
         assert_eq!(rt;
-            (fault, said.len(), may(&router)),
-            (case.fault, case.said, case.may),
+            (answer, said.len(), may),
+            (case.answer, case.said, case.may),
             "{}",
             case.name
         );
     }
     assert_eq!(rt; router.forwarder().link_cost(NodeId(0), NodeId(1)), None);
     Ok(())
-}
-
-fn may(router: &Router) -> (bool, bool, bool, bool) {
-    (
-        router.may_switch(NodeId(0)),
-        router.may_switch(NodeId(1)),
-        router.may_switch(NodeId(2)),
-        router.may_switch(NodeId(3)),
-    )
 }

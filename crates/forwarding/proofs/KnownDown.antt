@@ -1,5 +1,5 @@
 -- What the tables say of the next hop that is used, and of the repair where it lies over the link that is down. Assumes nothing.
-use Rattle.std.proofs.Common.{◌≡◌, ℕ, ◌<◌, ◌≤◌, Bool, true, false, cond, ◌&&◌, eqb, List, Some, None, Option, sym, refl, ap, ◌∙◌, ap₂, inl, inr, arith}
+use Rattle.std.proofs.Common.{◌≡◌, ℕ, ◌+◌, ◌*◌, ◌<◌, ◌≤◌, Bool, true, false, cond, ◌&&◌, eqb, List, Some, None, Option, slice_index_or, sym, refl, ap, ◌∙◌, ap₂, inl, inr, arith}
 use mathlib.Core.Path.{fun_ext}
 use Rattle.std.proofs.lemmas.Bool.{both_ways, eqb-true, and_parts, cond-true, cases_lt}
 use Rattle.theory.specs.Network.{Network, Lawful, LinkId, joins, without}
@@ -17,10 +17,10 @@ use Rattle.repairs.proofs.Right.{own_link_lem}
 use Rattle.repairs.specs.Entries.{repair_of, meaning}
 use Rattle.repairs.specs.declared.repair.Entry.{Entry}
 use Rattle.repairs.specs.declared.repair.Entry.TheVariants.{Unused, Apart, Via}
-use Rattle.forwarding.specs.Tables.{found, same_laid}
+use Rattle.forwarding.specs.Tables.{OwnRepairs, found, same_laid}
 
 -- a next hop is a neighbour, and only for a destination in the network
-pub hop_within : (z : Network) → Lawful z → (d a e : ℕ) → next_hop z d a ≡ Some e → (d < z.n) × (e < z.n) × (0 < z.cost a e)
+hop_within : (z : Network) → Lawful z → (d a e : ℕ) → next_hop z d a ≡ Some e → (d < z.n) × (e < z.n) × (0 < z.cost a e)
 hop_within z g d a e h =
     let n = (next_hop_is z d a e h).near in
     let w = g.within a e n.link in
@@ -74,14 +74,14 @@ not_switched z g l u aim f j true h =
     absurd (both_ways (joins l u f) (link_left_lem l z u f (next_hop_is (without l z) aim u f (sym h)).near.link) (sym j))
 not_switched z g l u aim f j false h = sym h
 
-pub old_hop : (s : Router) → Lawful s.links → (f aim : ℕ) → Some f ≡ entry s aim → true ≡ known_down s.failure s.me f → next_hop s.links aim s.me ≡ Some f
+old_hop : (s : Router) → Lawful s.links → (f aim : ℕ) → Some f ≡ entry s aim → true ≡ known_down s.failure s.me f → next_hop s.links aim s.me ≡ Some f
 old_hop s g f aim = go s.failure
   where
     go : (x : Failure) → Some f ≡ next_hop (links_in s aim x) aim s.me → true ≡ known_down x s.me f → next_hop s.links aim s.me ≡ Some f
     go NoFailure h d = absurd (both_ways true d refl)
     go (Down l) h d = not_switched s.links g l s.me aim f d (s.switched aim) h
 
-pub repair_found : (s : Router) → Lawful s.links → (f aim : ℕ) → Some f ≡ entry s aim → true ≡ known_down s.failure s.me f →
+repair_found : (s : Router) → Lawful s.links → (f aim : ℕ) → Some f ≡ entry s aim → true ≡ known_down s.failure s.me f →
     (e : Entry) → same_laid (meaning e) (theory.laid s.links s.me f aim) ≡ true →
     (go : List Segment → Decision) (ss : List Segment) → put_repair go ss (repair_of (found e)) ≡ repair_in s go aim ss s.failure
 repair_found s g f aim h d e t go ss = by s.failure d
@@ -91,3 +91,14 @@ repair_found s g f aim h d e t go ss = by s.failure d
     by (Down l) k =
         let w = laid_repair s.links g l s.me f aim (sym k) (old_hop s g f aim h d) in
         ap (put_repair go ss) (found_is e (theory.repair s.links l s.me aim) (ap (same_laid (meaning e)) (sym w) ∙ t))
+
+-- that next hop is a neighbour
+pub old_within : (s : Router) → Lawful s.links → (f aim : ℕ) → Some f ≡ entry s aim → true ≡ known_down s.failure s.me f → (aim < s.links.n) × (f < s.links.n) × (0 < s.links.cost s.me f)
+old_within s g f aim h d = hop_within s.links g aim s.me f (old_hop s g f aim h d)
+
+-- the own table has it
+pub laid_found : (s : Router) → Lawful s.links → (l : List Entry) → OwnRepairs s.links s.me s.links.n l → (f aim : ℕ) → Some f ≡ entry s aim → true ≡ known_down s.failure s.me f →
+    (go : List Segment → Decision) (ss : List Segment) → put_repair go ss (repair_of (found (slice_index_or l (f * 64 + aim) Unused))) ≡ repair_in s go aim ss s.failure
+laid_found s g l o f aim h d =
+    let w = old_within s g f aim h d in
+    repair_found s g f aim h d _ (o f aim (w.1, w.0, w.2))

@@ -1,7 +1,9 @@
 -- The router's own tables, filled one after another. Assumes nothing.
-use Rattle.std.proofs.Common.{◌≡◌, ℕ, zero, suc, ◌+◌, ◌*◌, ◌<◌, ◌≤◌, true, false, List, length, get_or, set, replicate, None, Ok, Err, Option, Result, sym, refl, ap, ◌∙◌, inl, inr, arith}
+use denote.Param.Members.{Mut}
+use Rattle.std.proofs.Common.{◌≡◌, ℕ, ◌+◌, ◌*◌, ◌≤◌, true, List, length, None, Ok, Err, Option, Result, refl, ap, inl, inr, arith}
+use Rattle.std.specs.Array.{IsFromFnResult}
+use Rattle.std.specs.Fn.{Called}
 use Rattle.std.proofs.lemmas.Bool.{eq-eqb, and_from, cases_eq}
-use Rattle.std.proofs.lemmas.List.{get_or-set_same, get_or-set_other}
 use Rattle.theory.specs.Network.{Network}
 use Rattle.theory.specs.NextHop.{next_hop, same}
 use Rattle.theory.specs.Repair as theory
@@ -11,14 +13,12 @@ use Rattle.routes.specs.NextHops.{hop_of}
 use Rattle.theory.proofs.NextHops.{eq_same}
 use Rattle.repairs.specs.Table.{LinkLaid, Refused, TableAsked}
 use Rattle.repairs.specs.declared.repair.Entry.{Entry}
-use Rattle.forwarding.specs.Tables.{NoneSwitched, OwnHops, OwnRepairs, same_laid}
+use Rattle.links.proofs.Arrays.{from_fn_each}
+use Rattle.forwarding.specs.Tables.{OwnHops, OwnRepairs, same_laid}
 
--- one next hop more
-pub own_hops_more : (z : Network) (u k : ℕ) (l : List (Option NodeId)) (h : Option NodeId) → k < length l → OwnHops z u k l → hop_of h ≡ next_hop z k u → OwnHops z u (k + 1) (set l k h)
-own_hops_more z u k l h n old e d p = elim (cases_eq d k) [
-  | inl x ↦ eq_same _ _ (ap (λ i. hop_of (get_or (set l k h) i None)) x ∙ (ap hop_of (get_or-set_same l k h None n) ∙ (e ∙ ap (λ i. next_hop z i u) (sym x))))
-  | inr x ↦ rw (get_or-set_other l k d h None x) (old d (omega arith))
-]
+pub from_fn_hops : {F : Type 0} (g : Mut F (ℕ × Unit {0}) (Option NodeId)) (z : Network) (u k : ℕ) (f : F) (l : List (Option NodeId)) → ((d : ℕ) (y : Option NodeId) (q : F) → Called g f (d, tt) y q → (q ≡ f) × (hop_of y ≡ next_hop z d u)) →
+    IsFromFnResult g f l 64 → k ≤ 64 → OwnHops z u k l
+from_fn_hops g z u k f l h r few d below = eq_same _ _ (from_fn_each g (λ j y. hop_of y ≡ next_hop z j u) f l 0 64 h r.each d None (omega arith) (omega arith))
 
 same_self : (x : theory.Laid) → same_laid x x ≡ true
 same_self theory.Unused = refl
@@ -48,11 +48,3 @@ own_repairs_kept z u f old new e size h same r g d p = elim r [
 pub own_repairs_asked : (z : Network) (u f : ℕ) (old new : List Entry) (r : Result (Unit {0}) Fault) → z.n ≤ 64 → length old ≡ 4096 → OwnRepairs z u f old → TableAsked z u f old new r → OwnRepairs z u (f + 1) new
 own_repairs_asked z u f old new (Ok x) few size h a = own_repairs_more z u f old new few h a.2
 own_repairs_asked z u f old new (Err e) few size h a = own_repairs_kept z u f old new e size h a.0 a.1
-
-none_in : (k d : ℕ) → get_or (replicate k false) d false ≡ false
-none_in zero d = refl
-none_in (suc k) zero = refl
-none_in (suc k) (suc d) = none_in k d
-
-pub none_switched : NoneSwitched (replicate 64 false)
-none_switched d = none_in 64 d

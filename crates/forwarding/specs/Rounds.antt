@@ -6,8 +6,10 @@ use Rattle.protocol.specs.Packet.{Packet, Segment, NodeSeg, LinkSeg, Decision, s
 use Rattle.repairs.specs.Entries.{repair_of}
 use Rattle.repairs.specs.declared.repair.Repair.{Repair}
 use Rattle.forwarding.specs.Decisions.{decision_of}
-use Rattle.forwarding.specs.declared.outcome.Round.{Round}
-use Rattle.forwarding.specs.declared.outcome.Round.TheVariants.{Done, Repaired}
+use Rattle.packets.specs.declared.packet.Packet as packets
+use Rattle.std.specs.declared.ops.ControlFlow.{ControlFlow}
+use Rattle.std.specs.declared.ops.ControlFlow.TheVariants.{Break, Continue}
+use Rattle.forwarding.specs.declared.outcome.Outcome.{Outcome}
 
 -- what is looked up is the repair that the definition puts, whatever is done then
 abbrev pub RepairFound : Router → ℕ → Option Repair → Type 0
@@ -21,9 +23,9 @@ pub record Put (p q : Packet) (ss : List Segment) : Type 0 where
   pub is : q ≡ with_segments p (NodeSeg a ∷ (LinkSeg a b ∷ ss))
 
 -- with its segments towards an aim
-abbrev pub GoesTowards : Router → Packet → ℕ → Round → Type 0
-GoesTowards s p aim (Done o) = (go : List Segment → Decision) → decision_of o ≡ towards s p go aim p.segments
-GoesTowards s p aim (Repaired q) =
+abbrev pub GoesTowards : Router → Packet → ℕ → ControlFlow Outcome packets.Packet → Type 0
+GoesTowards s p aim (Break o) = (go : List Segment → Decision) → decision_of o ≡ towards s p go aim p.segments
+GoesTowards s p aim (Continue q) =
     Put p (packet_of q) p.segments × ((go : List Segment → Decision) → go (packet_of q).segments ≡ towards s p go aim p.segments)
 
 -- the first segment is not a link
@@ -33,8 +35,8 @@ NoLink (NodeSeg x ∷ ss) = Unit {0}
 NoLink (LinkSeg a b ∷ ss) = ⊥
 
 -- one round, own segments taken off
-abbrev pub IsRound : Router → Packet → Round → Type 0
-IsRound s p (Done o) = (go : List Segment → Decision) → decision_of o ≡ by_segments s p go (strip s.me p.segments)
-IsRound s p (Repaired q) =
+abbrev pub IsRound : Router → Packet → ControlFlow Outcome packets.Packet → Type 0
+IsRound s p (Break o) = (go : List Segment → Decision) → decision_of o ≡ by_segments s p go (strip s.me p.segments)
+IsRound s p (Continue q) =
     Put p (packet_of q) (strip s.me p.segments) × NoLink (strip s.me p.segments) ×
     ((go : List Segment → Decision) → go (packet_of q).segments ≡ by_segments s p go (strip s.me p.segments))

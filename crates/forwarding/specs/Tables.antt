@@ -1,16 +1,17 @@
 -- A router's own tables. Assumes nothing.
 use Rattle.std.specs.Prelude.{◌≡◌, ℕ, ◌+◌, ◌*◌, ◌<◌, Bool, true, false, ◌&&◌, List, Some, None, Option, ◌==◌, slice_index_or}
+use Rattle.std.specs.Option.{ForSome}
 use Rattle.theory.specs.Network.{Network, without}
 use Rattle.theory.specs.NextHop.{next_hop, same}
 use Rattle.theory.specs.Repair as theory
 use Rattle.links.specs.Link.{ends}
-use Rattle.links.specs.declared.link.LinkId.{LinkId}
 use Rattle.links.specs.declared.node.NodeId.{NodeId}
 use Rattle.routes.specs.NextHops.{hop_of}
 use Rattle.repairs.specs.Entries.{meaning}
 use Rattle.repairs.specs.declared.repair.Repair.{Repair}
 use Rattle.repairs.specs.declared.repair.Entry.{Entry}
 use Rattle.repairs.specs.declared.repair.Entry.TheVariants.{Unused, Apart, Via}
+use Rattle.forwarding.specs.declared.forwarder.KnownFailure.{KnownFailure}
 
 -- l has the next hops of u for the first k destinations: as a test, since a ghost field takes no equation of options
 abbrev pub OwnHops : Network → ℕ → ℕ → List (Option NodeId) → Type 0
@@ -40,7 +41,6 @@ OwnRepairs z u k l = (f d : ℕ) → (f < k) × (d < z.n) × (0 < z.cost u f) �
 abbrev pub NoneSwitched : List Bool → Type 0
 NoneSwitched l = (d : ℕ) → slice_index_or l d false ≡ false
 
--- the links that are left by a failure
-abbrev pub links_after : Network → Option LinkId → Network
-links_after z None = z
-links_after z (Some l) = without (ends l) z
+-- while a failure is known, its table has the next hops of u without the link
+abbrev pub HopsAfter : Network → ℕ → Option KnownFailure → Type 0
+HopsAfter z u f = ForSome f (λ k. OwnHops (without (ends k.link) z) u z.n k.hops)

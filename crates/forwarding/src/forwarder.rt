@@ -1,6 +1,6 @@
 ghost use Rattle.std.specs.Prelude.{◌<◌};
 ghost use Rattle.routes.specs.Routes.{routes_network};
-ghost use Rattle.forwarding.specs.Tables.{OwnHops, OwnRepairs, links_after};
+ghost use Rattle.forwarding.specs.Tables.{HopsAfter, OwnRepairs};
 
 use links::link::LinkId;
 use links::node::NodeId;
@@ -12,17 +12,24 @@ pub mod forwarding;
 pub mod lookups;
 pub mod switching;
 
-// A router: its node and the routes of its list of links, its own repairs, and, while it knows of a failure, its own next
-// hops without that link and for which destinations it has switched to them.
+// A failure that a router knows of: the link that is down, and the router's own next hops without it.
+#[derive(Clone, Copy)]
+pub(crate) struct KnownFailure {
+    link: LinkId,
+    hops: [Option<NodeId>; 64],
+}
+
+// A router: its node and the routes of its list of links, its own repairs, and the failure that it knows of. For which
+// destinations it has switched stands beside that: `switch` promises to mark one also where no failure is known. Arrays,
+// as forwarding has no heap.
 #[derive(Drop)]
 pub struct Forwarder {
     me: NodeId,
     routes: Routes,
     repairs: [Entry; 4096],
-    failure: Option<LinkId>,
-    new_hops: [Option<NodeId>; 64],
+    failure: Option<KnownFailure>,
     switched: [bool; 64],
     ghost within: { me.0 < (routes_network routes).n },
     ghost laid: { OwnRepairs (routes_network routes) me.0 (routes_network routes).n repairs },
-    ghost after: { OwnHops (links_after (routes_network routes) failure) me.0 (routes_network routes).n new_hops },
+    ghost after: { HopsAfter (routes_network routes) me.0 failure },
 }

@@ -2,17 +2,10 @@ use links::fault::Fault;
 use links::node::NodeId;
 use packets::packet::Packet;
 
-// What becomes of a packet at a router.
+// What becomes of a packet at a router. A drop is one of its three ends, as the rules have it, and no failure of the call.
 #[derive(Clone, Copy)]
 pub enum Outcome {
     Delivered,
     Sent { to: NodeId, packet: Packet },
     Dropped(Fault),
-}
-
-// What one round of forwarding comes to: the packet goes on once more where a repair was put.
-#[derive(Clone, Copy)]
-pub(crate) enum Round {
-    Done(Outcome),
-    Repaired(Packet),
 }

@@ -6,6 +6,7 @@ use links::node::NodeId;
 use repairs::laying::lay_link;
 use repairs::repair::Entry;
 use routes::routes::Routes;
+use std::array;
 
 // It has switched for no destination.
 pub(crate) fn none_switched() -> [bool; 64]
@@ -18,11 +19,7 @@ pub(crate) fn none_switched() -> [bool; 64]
 pub(crate) fn own_hops(routes: &Routes, me: NodeId) -> [Option<NodeId>; 64]
     ensures { OwnHops (routes_network routes.now) me.0 (routes_network routes.now).n result }
 {
-    let mut hops = [None; 64];
-    for d in 0..routes.nodes() {
-        hops[d as usize] = routes.next_hop(NodeId(d), me);
-    }
-    hops
+    array::from_fn(|d| routes.next_hop(NodeId(d as u8), me))
 }
 
 // A row for each neighbour; the rows of the other nodes stay unused.
@@ -31,9 +28,8 @@ pub(crate) fn own_repairs(routes: &Routes, me: NodeId) -> [Entry; 4096]
 {
     let mut table = [Entry::Unused; 4096];
     for f in 0..routes.nodes() {
-        match lay_link(routes, me, NodeId(f), &mut table) {
-            Ok(()) | Err(_) => {}
-        }
+        // where there is no link to f nothing is laid up
+        let _ = lay_link(routes, me, NodeId(f), &mut table);
     }
     table
 }

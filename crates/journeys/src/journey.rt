@@ -9,7 +9,7 @@ pub mod moving;
 pub mod parts;
 
 // Is a packet under way, or how has it ended?
-#[derive(Clone, Copy)]
+#[derive(Clone, Copy, PartialEq, Eq, Debug)]
 pub enum State {
     UnderWay,
     Delivered,

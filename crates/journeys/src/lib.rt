@@ -2,3 +2,4 @@
 #![tactic(auto)]
 
 pub mod journey;
+pub mod order;

@@ -1,21 +1,52 @@
 // The summary of a plan: how many repairs there are, which failures cut whom off, and the longest repair.
-use console::{Ending, fault_said};
-use links::link::Link;
+use links::fault::Fault;
+use links::link::LinkId;
 use links::node::NodeId;
 use links::topology::Topology;
-use repairs::laying::lay_row;
 use repairs::repair::{Entry, Repair};
+use report::detours::{Detour, detours};
 use routes::routes::Routes;
-use std::alloc::Global;
+use std::alloc::{AllocError, Global};
+use std::fmt;
 
-// A repair beside the path that it stands for.
+// A repair of the end s for the destination d, beside the path that it stands for.
 #[derive(Clone, Copy)]
-struct Longest {
-    link: Link,
+struct Length {
+    link: LinkId,
     s: NodeId,
     d: NodeId,
     cost: u32,
     was: u32,
+}
+
+impl Length {
+    fn of(routes: &Routes, link: LinkId, s: NodeId, d: NodeId, repair: Repair) -> Length {
+        Length {
+            link,
+            s,
+            d,
+            cost: repair_cost(routes, s, d, repair),
+            was: distance(routes, d, s),
+        }
+    }
+
+    // How much longer it is than the path.
+    fn more(&self) -> u32 {
+        self.cost.saturating_sub(self.was)
+    }
+}
+
+impl fmt::Display for Length {
+    fn fmt<W: fmt::Write>(&self, f: &mut fmt::Formatter<W>) -> fmt::Result {
+        let Length {
+            link,
+            s,
+            d,
+            cost,
+            was,
+        } = *self;
+        write!(f, "{link}: {s} to {d} costs {cost}, was {was}")
+    }
 }
 
 // What has been counted so far, and the lines about those cut off.
@@ -24,142 +55,108 @@ struct Count {
     used: u32,
     repaired: u32,
     cut: String,
-    longest: Option<Longest>,
+    longest: Option<Length>,
 }
 
-// The text that `lay --summary` prints.
-pub fn summary(heap: Global, topology: &Topology) -> Result<String, Ending> {
-    let routes = Routes::of(topology);
-    let mut count = Count {
-        used: 0,
-        repaired: 0,
-        cut: String::new(heap),
-        longest: None,
-    };
-    for link in topology.links() {
-        count_link(heap, &mut count, &routes, *link)?;
-    }
-    text_of(heap, topology, count)
-}
-
-// Both ends of a link, for each destination.
-fn count_link(heap: Global, count: &mut Count, routes: &Routes, link: Link) -> Result<(), Ending> {
-    let n = routes.nodes() as usize;
-    let mut room_a = [Entry::Unused; 64];
-    let mut room_b = [Entry::Unused; 64];
-    let row_a = &mut room_a[0..n];
-    let row_b = &mut room_b[0..n];
-    lay_end(heap, routes, link.a, link.b, row_a)?;
-    lay_end(heap, routes, link.b, link.a, row_b)?;
-    name_cut(&mut count.cut, link, link.a, row_a)?;
-    name_cut(&mut count.cut, link, link.b, row_b)?;
-    for (d, (at_a, at_b)) in row_a.iter().zip(row_b.iter()).enumerate() {
-        let d = NodeId((d & 63) as u8);
-        match at_a {
-            Entry::Unused => count_entry(count, routes, link, link.b, d, *at_b),
-            _ => count_entry(count, routes, link, link.a, d, *at_a),
+impl Count {
+    fn new(heap: Global) -> Count {
+        Count {
+            used: 0,
+            repaired: 0,
+            cut: String::new(heap),
+            longest: None,
         }
     }
-    Ok(())
-}
 
-fn lay_end(
-    heap: Global,
-    routes: &Routes,
-    s: NodeId,
-    f: NodeId,
-    row: &mut [Entry],
-) -> Result<(), Ending> {
-    match lay_row(routes, s, f, row) {
-        Ok(()) => Ok(()),
-        Err(fault) => Err(fault_said(heap, fault)?),
+    // What both ends of a link have laid up, for each destination.
+    fn add_link(&mut self, routes: &Routes, link: LinkId) -> Result<(), Fault> {
+        let detours = detours(routes, link)?;
+        self.name_cut(link, link.a, &detours)?;
+        self.name_cut(link, link.b, &detours)?;
+        for (d, detour) in (0..routes.nodes()).zip(detours.iter()) {
+            self.add(routes, link, NodeId(d), *detour);
+        }
+        Ok(())
     }
-}
 
-// A line for an end that is cut off from some destinations.
-fn name_cut(cut: &mut String, link: Link, s: NodeId, row: &[Entry]) -> Result<(), Ending> {
-    let mut any = false;
-    for (d, entry) in row.iter().enumerate() {
-        if let Entry::Apart = entry {
-            if !any {
-                let (a, b, s) = (link.a.0, link.b.0, s.0);
-                write!(cut, "cut off {a}-{b}: {s} from")?;
-                any = true;
+    // A line for an end that is cut off from some destinations.
+    fn name_cut(&mut self, link: LinkId, s: NodeId, detours: &[Detour]) -> Result<(), AllocError> {
+        let mut cut = detours
+            .iter()
+            .enumerate()
+            .filter(|(_, detour)| detour.s == s && matches!(detour.entry, Entry::Apart))
+            .peekable();
+        if cut.peek().is_none() {
+            return Ok(());
+        }
+        write!(self.cut, "cut off {link}: {s} from")?;
+        for (d, _) in cut {
+            write!(self.cut, " {d}")?;
+        }
+        self.cut.push_str("\n")
+    }
+
+    fn add(&mut self, routes: &Routes, link: LinkId, d: NodeId, detour: Detour) {
+        match detour.entry {
+            Entry::Unused => {}
+            Entry::Apart => self.used = self.used.saturating_add(1),
+            Entry::Via(repair) => {
+                self.used = self.used.saturating_add(1);
+                self.repaired = self.repaired.saturating_add(1);
+                self.keep_longer(Length::of(routes, link, detour.s, d, repair));
             }
-            write!(cut, " {d}")?;
         }
     }
-    if any {
-        cut.push_str("\n")?;
-    }
-    Ok(())
-}
 
-// One entry of the end s.
-fn count_entry(count: &mut Count, routes: &Routes, link: Link, s: NodeId, d: NodeId, entry: Entry) {
-    match entry {
-        Entry::Unused => {}
-        Entry::Apart => {
-            count.used = count.used.saturating_add(1);
-        }
-        Entry::Via(repair) => {
-            count.used = count.used.saturating_add(1);
-            count.repaired = count.repaired.saturating_add(1);
-            let this = Longest {
-                link,
-                s,
-                d,
-                cost: repair_cost(routes, s, d, repair),
-                was: distance(routes, d, s),
-            };
-            count.longest = longer(count.longest, this);
+    // The one that is longer than its path by more; the first among equals.
+    fn keep_longer(&mut self, this: Length) {
+        if self
+            .longest
+            .is_none_or(|longest| longest.more() < this.more())
+        {
+            self.longest = Some(this);
         }
     }
 }
 
 // What a packet spends from s to d by the repair: to p, over the link to q, and on.
 fn repair_cost(routes: &Routes, s: NodeId, d: NodeId, repair: Repair) -> u32 {
-    let link = match routes.costs().cost(repair.p, repair.q) {
-        Some(cost) => cost as u32,
-        None => 0,
-    };
-    distance(routes, repair.p, s)
-        .saturating_add(link)
-        .saturating_add(distance(routes, d, repair.q))
+    let Repair { p, q } = repair;
+    let link = routes.link_cost(p, q).unwrap_or(0);
+    distance(routes, p, s)
+        .saturating_add(u32::from(link))
+        .saturating_add(distance(routes, d, q))
 }
 
 fn distance(routes: &Routes, d: NodeId, a: NodeId) -> u32 {
     routes.distance(d, a).unwrap_or(0)
 }
 
-// The one with the greater difference; the first among equals.
-fn longer(best: Option<Longest>, this: Longest) -> Option<Longest> {
-    match best {
-        Some(old) if this.cost.saturating_sub(this.was) <= old.cost.saturating_sub(old.was) => Some(
-            old,
-        ),
-        _ => Some(this),
+// The text that `lay --summary` prints.
+pub fn summary(heap: Global, topology: &Topology) -> Result<String, Fault> {
+    let routes = Routes::of(topology);
+    let mut count = Count::new(heap);
+    for link in topology.links() {
+        count.add_link(&routes, LinkId::from(*link))?;
     }
+    Ok(text_of(heap, topology, &count)?)
 }
 
-fn text_of(heap: Global, topology: &Topology, count: Count) -> Result<String, Ending> {
-    let (nodes, links) = (topology.nodes(), topology.links().len());
-    let (repaired, used) = (count.repaired, count.used);
+fn text_of(heap: Global, topology: &Topology, count: &Count) -> Result<String, AllocError> {
     let mut out = format!(in heap;
-        "places {nodes}\nlinks {links}\nrepaired {repaired} of {used}\n"
+        "places {}\nlinks {}\nrepaired {} of {}\n",
+        topology.nodes(),
+        topology.links().len(),
+        count.repaired,
+        count.used
     )?;
-    if count.cut.len() == 0 {
-        out.push_str("cut off none\n")?;
-    } else {
-        out.push_str(count.cut.as_str())?;
+    match count.cut.as_str() {
+        "" => out.push_str("cut off none\n")?,
+        lines => out.push_str(lines)?,
     }
     match count.longest {
         None => out.push_str("longest none\n")?,
-        Some(l) => {
-            let (a, b, s, d) = (l.link.a.0, l.link.b.0, l.s.0, l.d.0);
-            let (cost, was) = (l.cost, l.was);
-            write!(out, "longest {a}-{b}: {s} to {d} costs {cost}, was {was}\n")?;
-        }
+        Some(longest) => writeln!(out, "longest {longest}")?,
     }
     Ok(out)
 }

@@ -1,3 +1,4 @@
+pub mod Arrays
 pub mod Lawful
 pub mod Listed
 pub mod Pieces

@@ -1,12 +1,11 @@
 -- The clauses of read_links, by what the code tests. Assumes nothing.
-use Rattle.std.proofs.Common.{◌≡◌, ℕ, zero, suc, ◌-◌, ◌<◌, ◌≤◌, eqb, ltb, List, [], ◌∷◌, ◌++◌, length, drop, Some, None, Ok, Err, Result, sym, ap, ◌∙◌, inl, inr, append_assoc, arith}
+use Rattle.std.proofs.Common.{◌≡◌, ℕ, zero, suc, ◌+◌, ◌-◌, ◌<◌, ◌≤◌, eqb, ltb, List, [], ◌∷◌, ◌++◌, length, drop, slice_get, refl, append_assoc, Ok, Err, Result, sym, ap, ap₂, ◌∙◌, arith}
 use Rattle.std.proofs.lemmas.Bool.{lt-ltb, le-ltb, eq-eqb, ne_eqb, cond-true, cond-false}
+use native.Mathlib.Numerals.{unary_clauses}
 use Rattle.links.specs.declared.link.Link.{Link}
-use Rattle.links.specs.declared.wire.ReadError.{ReadError}
 use Rattle.links.specs.declared.fault.Fault.{Fault}
 use Rattle.links.specs.declared.fault.Fault.TheVariants.{Truncated, TrailingBytes}
-use Rattle.links.specs.Answer.{Collects}
-use Rattle.links.specs.Wire.{link_at, link_fault, judged, with_link, read_links, Reading, Read, Refused}
+use Rattle.links.specs.Wire.{link_at, last_link, check_link, judged, with_link, read_links, Reading, Read, Refused}
 
 pub read_end : (k n : ℕ) (p : Link) (m : ℕ) (bs : List ℕ) → k ≡ 0 → length bs ≡ 0 → read_links k n p m bs ≡ Read n []
 unfolding read_links
@@ -23,14 +22,14 @@ unfolding read_links
 read_truncated zero n p m bs e h = absurd (omega arith)
 read_truncated (suc k) n p m bs e h = rw (lt-ltb (length bs) 4 h)
 
-pub read_refused : (k n : ℕ) (p : Link) (m : ℕ) (bs : List ℕ) (f : Fault) → 0 < k → 4 ≤ length bs → link_fault n p (link_at bs) ≡ Some f → read_links k n p m bs ≡ Refused f (m - length bs)
+pub read_refused : (k n : ℕ) (p : Link) (m : ℕ) (bs : List ℕ) (f : Fault) → 0 < k → 4 ≤ length bs → check_link n p (link_at bs) ≡ Err f → read_links k n p m bs ≡ Refused f (m - length bs)
 unfolding read_links
 read_refused zero n p m bs f e h q = absurd (omega arith)
 read_refused (suc k) n p m bs f e h q =
     cond-false (ltb (length bs) 4) (Refused Truncated (m - length bs)) _ (le-ltb (length bs) 4 h) ∙
     ap (λ o. judged o (m - length bs) (with_link (link_at bs) (read_links k n (link_at bs) m (drop 4 bs)))) q
 
-pub read_link : (k n : ℕ) (p : Link) (m : ℕ) (bs : List ℕ) → 0 < k → 4 ≤ length bs → link_fault n p (link_at bs) ≡ None → read_links k n p m bs ≡ with_link (link_at bs) (read_links (k - 1) n (link_at bs) m (drop 4 bs))
+pub read_link : (k n : ℕ) (p : Link) (m : ℕ) (bs : List ℕ) → 0 < k → 4 ≤ length bs → check_link n p (link_at bs) ≡ Ok tt → read_links k n p m bs ≡ with_link (link_at bs) (read_links (k - 1) n (link_at bs) m (drop 4 bs))
 unfolding read_links
 read_link zero n p m bs e h q = absurd (omega arith)
 read_link (suc k) n p m bs e h q =
@@ -38,9 +37,37 @@ read_link (suc k) n p m bs e h q =
     cond-false (ltb (length bs) 4) (Refused Truncated (m - length bs)) _ (le-ltb (length bs) 4 h) ∙
     (ap (λ o. judged o (m - length bs) (with_link (link_at bs) (read_links k n (link_at bs) m (drop 4 bs)))) q ∙ ap (λ j. with_link (link_at bs) (read_links j n (link_at bs) m (drop 4 bs))) (sym i))
 
--- what is collected behind one link more
-pub collects_link : {A : Type 0} (r : Result A ReadError) (n : ℕ) (before mid after : List Link) (l : Link) (w v : Reading) → mid ≡ (before ++ (l ∷ [])) → v ≡ with_link l w → Collects r n mid after w → Collects r n before after v
-collects_link (Ok x) n before mid after l w v p q h =
-    (l ∷ h.0, q ∙ ap (with_link l) h.1, h.2 ∙ (ap (λ ls. ls ++ h.0) p ∙ append_assoc before (l ∷ []) h.0))
-collects_link (Err e) n before mid after l w v p q (inl m) = inl m
-collects_link (Err e) n before mid after l w v p q (inr m) = inr (q ∙ ap (with_link l) m)
+-- links that are read already, before those that follow
+abbrev pub with_links : List Link → Reading → Reading
+with_links ls (Read n xs) = Read n (ls ++ xs)
+with_links ls (Refused f i) = Refused f i
+
+abbrev pub last_of : List Link → Link
+last_of ls = last_link (slice_get ls (length ls - 1))
+
+with_links-push : (ls : List Link) (l : Link) (w : Reading) → with_links ls (with_link l w) ≡ with_links (ls ++ (l ∷ [])) w
+with_links-push ls l (Read n xs) = ap (Read n) (sym (append_assoc ls (l ∷ []) xs))
+with_links-push ls l (Refused f i) = refl
+
+pub last_of-push : (ls : List Link) (l : Link) → last_of (ls ++ (l ∷ [])) ≡ l
+last_of-push [] l = refl
+last_of-push (x ∷ []) l = refl
+last_of-push (x ∷ (y ∷ ls)) l = simp unary_clauses (simp unary_clauses at (last_of-push (y ∷ ls) l))
+
+-- one link more
+pub read_more : (k n : ℕ) (ls : List Link) (l : Link) (m : ℕ) (bs more : List ℕ) (w : Reading) → 0 < k → 4 ≤ length bs → l ≡ link_at bs → more ≡ drop 4 bs → check_link n (last_of ls) l ≡ Ok tt →
+    w ≡ with_links ls (read_links k n (last_of ls) m bs) → w ≡ with_links (ls ++ (l ∷ [])) (read_links (k - 1) n (last_of (ls ++ (l ∷ []))) m more)
+read_more k n ls l m bs more w h q e d c v =
+    let r = read_link k n (last_of ls) m bs h q (ap (check_link n (last_of ls)) (sym e) ∙ c) in
+    let s = ap₂ (λ x xs. with_link x (read_links (k - 1) n x m xs)) e d in
+    v ∙ (ap (with_links ls) (r ∙ sym s) ∙ (with_links-push ls l (read_links (k - 1) n l m more) ∙ ap (λ x. with_links (ls ++ (l ∷ [])) (read_links (k - 1) n x m more)) (sym (last_of-push ls l))))
+
+-- a fault of the next piece, which begins at the byte i
+pub refuse_here : (k n : ℕ) (ls : List Link) (m i : ℕ) (bs : List ℕ) (w : Reading) (f : Fault) → i + length bs ≡ m → read_links k n (last_of ls) m bs ≡ Refused f (m - length bs) →
+    w ≡ with_links ls (read_links k n (last_of ls) m bs) → w ≡ Refused f i
+refuse_here k n ls m i bs w f h q v = let j : m - length bs ≡ i = omega arith in v ∙ (ap (with_links ls) q ∙ ap (Refused f) j)
+
+pub refuse_link : (k n : ℕ) (ls : List Link) (l : Link) (m i : ℕ) (bs : List ℕ) (w : Reading) (r : Result (Unit {0}) Fault) → 0 < k → 4 ≤ length bs → l ≡ link_at bs → r ≡ check_link n (last_of ls) l → i + length bs ≡ m →
+    w ≡ with_links ls (read_links k n (last_of ls) m bs) → (f : Fault) → r ≡ Err f → w ≡ Refused f i
+refuse_link k n ls l m i bs w r h q e c j v f u =
+    refuse_here k n ls m i bs w f j (read_refused k n (last_of ls) m bs f h q (ap (check_link n (last_of ls)) (sym e) ∙ (sym c ∙ u))) v

@@ -1,16 +1,15 @@
 -- What is written reads back as what it was, and what is read was written so. Assumes nothing.
-use Rattle.std.proofs.Common.{◌≡◌, ℕ, zero, suc, ◌+◌, ◌-◌, ◌*◌, ◌/◌, ◌%◌, ◌<◌, ◌≤◌, true, false, cond, ◌&&◌, eqb, ltb, leb, List, [], ◌∷◌, ◌++◌, length, get_or, drop, Some, None, Option, sym, refl, ap, ◌∙◌, subst, ap₂, inl, inr, arith}
+use Rattle.std.proofs.Common.{◌≡◌, ℕ, zero, suc, ◌+◌, ◌-◌, ◌*◌, ◌/◌, ◌%◌, ◌<◌, ◌≤◌, true, false, cond, ◌&&◌, eqb, ltb, leb, List, [], ◌∷◌, ◌++◌, length, get_or, drop, Ok, Err, Result, sym, refl, ap, ◌∙◌, subst, ap₂, inl, inr, arith}
 use Rattle.std.specs.List.{flat_map}
 use Rattle.std.proofs.lemmas.Bool.{ltb-true, ltb-false, leb-true, eqb-true, eqb-false, lt-ltb, le-ltb, le-leb, ne_eqb, cases_lt, and_parts, cases_eq, cases_Bool, and_from, cond-true, cond-false}
-use Rattle.std.proofs.lemmas.List.{get_or-drop, nil_from_length}
+use Rattle.std.proofs.lemmas.List.{get_or-drop, length-drop, nil_from_length}
 use Rattle.std.proofs.lemmas.Nat.{div-add-mod', div-mul-add, mod-mul-add}
-use Rattle.links.specs.Answer.{Refusal, ReadWhole}
-use Rattle.links.specs.Wire.{link_bytes, written, link_at, link_fault, header_fault, judged, with_link, read_links, reading, Reading, Read, Refused}
+use Rattle.links.specs.Answer.{ReadWhole}
+use Rattle.links.specs.Wire.{link_bytes, written, link_at, check_link, check_header, judged, with_link, read_links, reading, Reading, Read, Refused}
 use Rattle.links.specs.Links.{precedes, follows, start, rising_from, rising}
 use Rattle.links.proofs.Pieces.{read_end, read_trailing, read_truncated, read_refused, read_link}
 use Rattle.links.proofs.Lawful.{follows_parts, rising_split}
 use Rattle.theory.proofs.Distances.{count}
-use Rattle.links.specs.declared.wire.ReadError.{ReadError}
 use Rattle.links.specs.declared.fault.Fault.{Fault}
 use Rattle.links.specs.declared.fault.Fault.TheVariants.{UnknownKind, Truncated, TrailingBytes, NodeCount, NodeOutOfRange, ZeroCost, SelfLink, HigherFirst, NotRising}
 use Rattle.links.specs.declared.link.Link.{Link}
@@ -21,22 +20,25 @@ Bytes bs = (i : ℕ) → get_or bs i 0 < 256
 pub read_refused_apart : (n : ℕ) (ls : List Link) (f : Fault) (i : ℕ) → Refused f i ≡ Read n ls → ⊥
 read_refused_apart n ls f i p = let z : ◌≡◌ {A = ℕ} 0 1 = cc in omega arith
 
-none_some_fault : (f : Fault) → Some f ≡ None → ⊥
-none_some_fault f p = let z : ◌≡◌ {A = ℕ} 0 1 = cc in omega arith
+abbrev pub passed : Result (Unit {0}) Fault
+passed = Ok tt
+
+err_not_ok : (f : Fault) → Err f ≡ passed → ⊥
+err_not_ok f p = let z : ◌≡◌ {A = ℕ} 0 1 = cc in omega arith
 
 -- a link without a fault may follow, and the other way round
 
-fault_follows : (n : ℕ) (p l : Link) → l.cost ≤ 65535 → link_fault n p l ≡ None → follows n p l ≡ true
+fault_follows : (n : ℕ) (p l : Link) → l.cost ≤ 65535 → check_link n p l ≡ passed → follows n p l ≡ true
 fault_follows n p l h e = elim (cases_Bool (ltb l.a.0 n && ltb l.b.0 n)) [
-  | inr t ↦ absurd (none_some_fault NodeOutOfRange (sym (cond-false _ _ (Some NodeOutOfRange) t) ∙ e))
-  | inl t ↦ in_range (and_parts (ltb l.a.0 n) (ltb l.b.0 n) t).1 (sym (cond-true _ _ (Some NodeOutOfRange) t) ∙ e)
+  | inr t ↦ absurd (err_not_ok NodeOutOfRange (sym (cond-false _ _ (Err NodeOutOfRange) t) ∙ e))
+  | inl t ↦ in_range (and_parts (ltb l.a.0 n) (ltb l.b.0 n) t).1 (sym (cond-true _ _ (Err NodeOutOfRange) t) ∙ e)
 ]
   where
-    ordered : ltb l.b.0 n ≡ true → eqb l.cost 0 ≡ false → eqb l.a.0 l.b.0 ≡ false → cond (ltb l.b.0 l.a.0) (Some HigherFirst) (cond (precedes p l) None (Some NotRising)) ≡ None → follows n p l ≡ true
+    ordered : ltb l.b.0 n ≡ true → eqb l.cost 0 ≡ false → eqb l.a.0 l.b.0 ≡ false → cond (ltb l.b.0 l.a.0) (Err HigherFirst) (cond (precedes p l) passed (Err NotRising)) ≡ passed → follows n p l ≡ true
     ordered t c d q = elim (cases_Bool (ltb l.b.0 l.a.0)) [
-      | inl v ↦ absurd (none_some_fault HigherFirst (sym (cond-true _ (Some HigherFirst) _ v) ∙ q))
+      | inl v ↦ absurd (err_not_ok HigherFirst (sym (cond-true _ (Err HigherFirst) _ v) ∙ q))
       | inr v ↦ elim (cases_Bool (precedes p l)) [
-        | inr w ↦ absurd (none_some_fault NotRising (sym (cond-false (precedes p l) None (Some NotRising) w) ∙ (sym (cond-false _ (Some HigherFirst) _ v) ∙ q)))
+        | inr w ↦ absurd (err_not_ok NotRising (sym (cond-false (precedes p l) passed (Err NotRising) w) ∙ (sym (cond-false _ (Err HigherFirst) _ v) ∙ q)))
         | inl w ↦
             and_from (ltb l.a.0 l.b.0 && ltb l.b.0 n && ltb 0 l.cost && leb l.cost 65535) (precedes p l)
             (and_from (ltb l.a.0 l.b.0 && ltb l.b.0 n && ltb 0 l.cost) (leb l.cost 65535)
@@ -48,24 +50,24 @@ fault_follows n p l h e = elim (cases_Bool (ltb l.a.0 n && ltb l.b.0 n)) [
       ]
     ]
 
-    in_range : ltb l.b.0 n ≡ true → cond (eqb l.cost 0) (Some ZeroCost) (cond (eqb l.a.0 l.b.0) (Some SelfLink) (cond (ltb l.b.0 l.a.0) (Some HigherFirst) (cond (precedes p l) None (Some NotRising)))) ≡ None → follows n p l ≡ true
+    in_range : ltb l.b.0 n ≡ true → cond (eqb l.cost 0) (Err ZeroCost) (cond (eqb l.a.0 l.b.0) (Err SelfLink) (cond (ltb l.b.0 l.a.0) (Err HigherFirst) (cond (precedes p l) passed (Err NotRising)))) ≡ passed → follows n p l ≡ true
     in_range t q = elim (cases_Bool (eqb l.cost 0)) [
-      | inl v ↦ absurd (none_some_fault ZeroCost (sym (cond-true _ (Some ZeroCost) _ v) ∙ q))
+      | inl v ↦ absurd (err_not_ok ZeroCost (sym (cond-true _ (Err ZeroCost) _ v) ∙ q))
       | inr v ↦ elim (cases_Bool (eqb l.a.0 l.b.0)) [
-        | inl w ↦ absurd (none_some_fault SelfLink (sym (cond-true _ (Some SelfLink) _ w) ∙ (sym (cond-false _ (Some ZeroCost) _ v) ∙ q)))
-        | inr w ↦ ordered t v w (sym (cond-false _ (Some SelfLink) _ w) ∙ (sym (cond-false _ (Some ZeroCost) _ v) ∙ q))
+        | inl w ↦ absurd (err_not_ok SelfLink (sym (cond-true _ (Err SelfLink) _ w) ∙ (sym (cond-false _ (Err ZeroCost) _ v) ∙ q)))
+        | inr w ↦ ordered t v w (sym (cond-false _ (Err SelfLink) _ w) ∙ (sym (cond-false _ (Err ZeroCost) _ v) ∙ q))
       ]
     ]
 
-follows_fault : (n : ℕ) (p l : Link) → follows n p l ≡ true → link_fault n p l ≡ None
+follows_fault : (n : ℕ) (p l : Link) → follows n p l ≡ true → check_link n p l ≡ passed
 follows_fault n p l t =
     let f = follows_parts n p l t in
     let a : l.a.0 < n = omega (arith, f.order, f.within) in
-    cond-true _ _ (Some NodeOutOfRange) (and_from (ltb l.a.0 n) (ltb l.b.0 n) (lt-ltb l.a.0 n a) (lt-ltb l.b.0 n f.within)) ∙
-    (cond-false (eqb l.cost 0) (Some ZeroCost) _ (ne_eqb l.cost 0 (λ e. omega (arith, f.some))) ∙
-    (cond-false (eqb l.a.0 l.b.0) (Some SelfLink) _ (ne_eqb l.a.0 l.b.0 (λ e. omega (arith, f.order))) ∙
-    (cond-false (ltb l.b.0 l.a.0) (Some HigherFirst) _ (le-ltb l.b.0 l.a.0 (omega (arith, f.order))) ∙
-    cond-true (precedes p l) None (Some NotRising) f.after)))
+    cond-true _ _ (Err NodeOutOfRange) (and_from (ltb l.a.0 n) (ltb l.b.0 n) (lt-ltb l.a.0 n a) (lt-ltb l.b.0 n f.within)) ∙
+    (cond-false (eqb l.cost 0) (Err ZeroCost) _ (ne_eqb l.cost 0 (λ e. omega (arith, f.some))) ∙
+    (cond-false (eqb l.a.0 l.b.0) (Err SelfLink) _ (ne_eqb l.a.0 l.b.0 (λ e. omega (arith, f.order))) ∙
+    (cond-false (ltb l.b.0 l.a.0) (Err HigherFirst) _ (le-ltb l.b.0 l.a.0 (omega (arith, f.order))) ∙
+    cond-true (precedes p l) passed (Err NotRising) f.after)))
 
 -- four bytes and the link that they spell
 
@@ -109,13 +111,13 @@ was_read zero n m p size ls bs h e = elim (cases_eq (length bs) 0) [
     none u b = record { nodes = sym u; rising = refl; count = refl; bytes = sym b }
 was_read (suc k) n m p size ls bs h e = elim (cases_lt (length bs) 4) [
   | inl q ↦ absurd (read_refused_apart m ls Truncated (size - length bs) (sym (read_truncated (suc k) n p size bs (omega arith) q) ∙ e))
-  | inr q ↦ judge q (link_fault n p (link_at bs)) refl (λ x xs r. was_read k n x (link_at bs) size xs (drop 4 bs) (bytes_drop 4 bs h) r)
+  | inr q ↦ judge q (check_link n p (link_at bs)) refl (λ x xs r. was_read k n x (link_at bs) size xs (drop 4 bs) (bytes_drop 4 bs h) r)
 ]
   where
     Rest : Type 0
     Rest = (x : ℕ) (xs : List Link) → read_links k n (link_at bs) size (drop 4 bs) ≡ Read x xs → WasRead k n x (link_at bs) xs (drop 4 bs)
 
-    joins_on : 4 ≤ length bs → link_fault n p (link_at bs) ≡ None → (x : ℕ) (xs : List Link) → WasRead k n x (link_at bs) xs (drop 4 bs) → x ≡ m → ls ≡ (link_at bs ∷ xs) → WasRead (suc k) n m p ls bs
+    joins_on : 4 ≤ length bs → check_link n p (link_at bs) ≡ passed → (x : ℕ) (xs : List Link) → WasRead k n x (link_at bs) xs (drop 4 bs) → x ≡ m → ls ≡ (link_at bs ∷ xs) → WasRead (suc k) n m p ls bs
     joins_on q f x xs w u v =
         subst (λ l. WasRead (suc k) n m p l bs) (sym v) (record {
           nodes = sym u ∙ w.nodes;
@@ -124,16 +126,16 @@ was_read (suc k) n m p size ls bs h e = elim (cases_lt (length bs) 4) [
           bytes = ap (λ r. link_bytes (link_at bs) ++ r) w.bytes ∙ sym (spelled_link bs h q);
         })
 
-    more : 4 ≤ length bs → link_fault n p (link_at bs) ≡ None → Rest → (w : Reading) → read_links k n (link_at bs) size (drop 4 bs) ≡ w → with_link (link_at bs) w ≡ Read m ls → WasRead (suc k) n m p ls bs
+    more : 4 ≤ length bs → check_link n p (link_at bs) ≡ passed → Rest → (w : Reading) → read_links k n (link_at bs) size (drop 4 bs) ≡ w → with_link (link_at bs) w ≡ Read m ls → WasRead (suc k) n m p ls bs
     more q f i (Refused g j) r s = absurd (read_refused_apart m ls g j s)
     more q f i (Read x xs) r s =
         let u : x ≡ m = cc in
         let v : (link_at bs ∷ xs) ≡ ls = cc in
         joins_on q f x xs (i x xs r) u (sym v)
 
-    judge : 4 ≤ length bs → (o : Option Fault) → link_fault n p (link_at bs) ≡ o → Rest → WasRead (suc k) n m p ls bs
-    judge q (Some f) r i = absurd (read_refused_apart m ls f (size - length bs) (sym (read_refused (suc k) n p size bs f (omega arith) q r) ∙ e))
-    judge q None r i =
+    judge : 4 ≤ length bs → (o : Result (Unit {0}) Fault) → check_link n p (link_at bs) ≡ o → Rest → WasRead (suc k) n m p ls bs
+    judge q (Err f) r i = absurd (read_refused_apart m ls f (size - length bs) (sym (read_refused (suc k) n p size bs f (omega arith) q r) ∙ e))
+    judge q (Ok _) r i =
         let s : suc k - 1 ≡ k = omega arith in
         let t = ap (λ j. with_link (link_at bs) (read_links j n (link_at bs) size (drop 4 bs))) s in
         more q r i (read_links k n (link_at bs) size (drop 4 bs)) refl (sym t ∙ (sym (read_link (suc k) n p size bs (omega arith) q r) ∙ e))
@@ -147,32 +149,24 @@ reads_written n p size (l ∷ ls) t =
     let s = link_spelled l (flat_map link_bytes ls) in
     let h = rising_split n p l ls t in
     let i : suc (length ls) - 1 ≡ length ls = omega arith in
-    read_link (suc (length ls)) n p size bs (omega arith) (omega arith) (ap (link_fault n p) s ∙ follows_fault n p l h.0) ∙
+    read_link (suc (length ls)) n p size bs (omega arith) (omega arith) (ap (check_link n p) s ∙ follows_fault n p l h.0) ∙
     (ap₂ (λ x j. with_link x (read_links j n x size (flat_map link_bytes ls))) s i ∙ ap (with_link l) (reads_written n l size ls h.1))
 
 -- the header
 
-pub header_parts : (kind n : ℕ) → header_fault kind n ≡ None → (kind ≡ 1) × (0 < n) × (n ≤ 64)
+pub header_parts : (kind n : ℕ) → check_header kind n ≡ passed → (kind ≡ 1) × (0 < n) × (n ≤ 64)
 header_parts kind n e = elim (cases_Bool (eqb kind 1)) [
-  | inr t ↦ absurd (none_some_fault UnknownKind (sym (cond-false _ _ (Some UnknownKind) t) ∙ e))
+  | inr t ↦ absurd (err_not_ok UnknownKind (sym (cond-false _ _ (Err UnknownKind) t) ∙ e))
   | inl t ↦ elim (cases_Bool (ltb 0 n && leb n 64)) [
-    | inr u ↦ absurd (none_some_fault NodeCount (sym (cond-false _ None (Some NodeCount) u) ∙ (sym (cond-true _ _ (Some UnknownKind) t) ∙ e)))
+    | inr u ↦ absurd (err_not_ok NodeCount (sym (cond-false _ passed (Err NodeCount) u) ∙ (sym (cond-true _ _ (Err UnknownKind) t) ∙ e)))
     | inl u ↦ let h = and_parts (ltb 0 n) (leb n 64) u in (eqb-true kind 1 t, ltb-true 0 n h.0, leb-true n 64 h.1)
   ]
 ]
 
-header_fine : (n : ℕ) → 0 < n → n ≤ 64 → header_fault 1 n ≡ None
-header_fine n h k = cond-true (ltb 0 n && leb n 64) None (Some NodeCount) (and_from (ltb 0 n) (leb n 64) (lt-ltb 0 n h) (le-leb n 64 k))
+header_fine : (n : ℕ) → 0 < n → n ≤ 64 → check_header 1 n ≡ passed
+header_fine n h k = cond-true (ltb 0 n && leb n 64) passed (Err NodeCount) (and_from (ltb 0 n) (leb n 64) (lt-ltb 0 n h) (le-leb n 64 k))
 
-pub reading_truncated : (bs : List ℕ) → length bs < 4 → reading bs ≡ Refused Truncated 0
-reading_truncated bs h = cond-true (ltb (length bs) 4) (Refused Truncated 0) _ (lt-ltb (length bs) 4 h)
-
-pub reading_header : (bs : List ℕ) (f : Fault) → 4 ≤ length bs → header_fault (get_or bs 0 0) (get_or bs 1 0) ≡ Some f → reading bs ≡ Refused f 0
-reading_header bs f h e =
-    cond-false (ltb (length bs) 4) (Refused Truncated 0) _ (le-ltb (length bs) 4 h) ∙
-    ap (λ o. judged o 0 (read_links (get_or bs 2 0 * 256 + get_or bs 3 0) (get_or bs 1 0) start (length bs) (drop 4 bs))) e
-
-pub reading_links : (bs : List ℕ) → 4 ≤ length bs → header_fault (get_or bs 0 0) (get_or bs 1 0) ≡ None → reading bs ≡ read_links (get_or bs 2 0 * 256 + get_or bs 3 0) (get_or bs 1 0) start (length bs) (drop 4 bs)
+pub reading_links : (bs : List ℕ) → 4 ≤ length bs → check_header (get_or bs 0 0) (get_or bs 1 0) ≡ passed → reading bs ≡ read_links (get_or bs 2 0 * 256 + get_or bs 3 0) (get_or bs 1 0) start (length bs) (drop 4 bs)
 reading_links bs h e =
     cond-false (ltb (length bs) 4) (Refused Truncated 0) _ (le-ltb (length bs) 4 h) ∙
     ap (λ o. judged o 0 (read_links (get_or bs 2 0 * 256 + get_or bs 3 0) (get_or bs 1 0) start (length bs) (drop 4 bs))) e
@@ -194,20 +188,16 @@ written_reads n ls h k t =
     (ap (λ i. read_links i n start (length (written n ls)) (flat_map link_bytes ls)) (two_bytes (length ls)) ∙ reads_written n start (length (written n ls)) ls t)
 
 -- a whole list that is read
-pub read_whole : (bs rest : List ℕ) (count : ℕ) (none all : List Link) → Bytes bs → 4 ≤ length bs → header_fault (get_or bs 0 0) (get_or bs 1 0) ≡ None → count ≡ get_or bs 2 0 * 256 + get_or bs 3 0 → rest ≡ drop 4 bs → none ≡ [] → (ls : List Link) × (read_links count (get_or bs 1 0) start (length bs) rest ≡ Read (get_or bs 1 0) ls) × (all ≡ (none ++ ls)) → ReadWhole bs (get_or bs 1 0) all
-read_whole bs rest count none all h l e k q o r =
+pub read_whole : (bs rest : List ℕ) (count : ℕ) (ls : List Link) → Bytes bs → 4 ≤ length bs → check_header (get_or bs 0 0) (get_or bs 1 0) ≡ passed → count ≡ get_or bs 2 0 * 256 + get_or bs 3 0 → rest ≡ drop 4 bs →
+    read_links count (get_or bs 1 0) start (4 + length rest) rest ≡ Read (get_or bs 1 0) ls → ReadWhole bs (get_or bs 1 0) ls
+read_whole bs rest count ls h l e k q r =
     let p = header_parts (get_or bs 0 0) (get_or bs 1 0) e in
-    let s = ap₂ (λ i x. read_links i (get_or bs 1 0) start (length bs) x) k q in
-    let w = was_read (get_or bs 2 0 * 256 + get_or bs 3 0) (get_or bs 1 0) (get_or bs 1 0) start (length bs) r.0 (drop 4 bs) (bytes_drop 4 bs h) (sym s ∙ r.1) in
-    let a : all ≡ r.0 = r.2 ∙ ap (λ x. x ++ r.0) o in
-    subst (λ x. ReadWhole bs (get_or bs 1 0) x) (sym a) (record {
+    let m : 4 + length rest ≡ length bs = omega (arith, ap length q, length-drop 4 bs) in
+    let s : read_links (get_or bs 2 0 * 256 + get_or bs 3 0) (get_or bs 1 0) start (length bs) (drop 4 bs) ≡ Read (get_or bs 1 0) ls = rw (← k, ← q, ← m) r in
+    let w = was_read (get_or bs 2 0 * 256 + get_or bs 3 0) (get_or bs 1 0) (get_or bs 1 0) start (length bs) ls (drop 4 bs) (bytes_drop 4 bs h) s in
+    record {
       few = (p.1, p.2);
       ordered = w.rising;
-      value = reading_links bs l e ∙ (sym s ∙ r.1);
-      spelled = was_written bs r.0 h l p.0 w;
-    })
-
--- links that are refused refuse the whole
-pub refuse_whole : (bs rest : List ℕ) (e : ReadError) (count : ℕ) → 4 ≤ length bs → header_fault (get_or bs 0 0) (get_or bs 1 0) ≡ None → count ≡ get_or bs 2 0 * 256 + get_or bs 3 0 → rest ≡ drop 4 bs → Refusal e (read_links count (get_or bs 1 0) start (length bs) rest) → Refusal e (reading bs)
-refuse_whole bs rest e count l f k q (inl m) = inl m
-refuse_whole bs rest e count l f k q (inr m) = inr (reading_links bs l f ∙ (sym (ap₂ (λ i x. read_links i (get_or bs 1 0) start (length bs) x) k q) ∙ m))
+      value = reading_links bs l e ∙ s;
+      spelled = was_written bs ls h l p.0 w;
+    }

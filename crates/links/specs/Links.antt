@@ -1,8 +1,12 @@
 -- Lists of links: which are lawful, and the network that they make. Assumes nothing.
-use Rattle.std.specs.Prelude.{◌≡◌, ℕ, ◌<◌, Bool, true, cond, ◌&&◌, ◌||◌, List, [], ◌∷◌, length, ◌==◌, nat_le, nat_lt, slice_index_or}
+use Rattle.std.specs.Prelude.{◌≡◌, ℕ, ◌<◌, Bool, true, cond, ◌&&◌, ◌||◌, List, [], ◌∷◌, length, ◌==◌, nat_le, nat_lt, slice_index_or, ◌≤◌}
 use Rattle.links.specs.Link.{ends_of}
 use Rattle.theory.specs.Network.{joins, Network}
 use Rattle.links.specs.declared.link.Link.{Link}
+
+-- how many nodes a network has: 1 to 64
+abbrev pub IsNodeCount : ℕ → Type 0
+IsNodeCount n = (0 < n) × (n ≤ 64)
 
 -- p comes before l: by the lower node, then by the higher one
 abbrev pub precedes : Link → Link → Bool

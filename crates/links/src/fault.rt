@@ -57,6 +57,7 @@ impl Fault {
     }
 }
 
+// By hand: with thiserror there would be as many lines, and the From below would still be by hand.
 impl fmt::Display for Fault {
     fn fmt<W: fmt::Write>(&self, f: &mut fmt::Formatter<W>) -> fmt::Result {
         match self {

@@ -1,5 +1,5 @@
-ghost use Rattle.std.specs.Prelude.{◌≡◌, ◌<◌, ◌≤◌, true};
-ghost use Rattle.links.specs.Links.{rising};
+ghost use Rattle.std.specs.Prelude.{◌≡◌, true};
+ghost use Rattle.links.specs.Links.{rising, IsNodeCount};
 
 use crate::link::Link;
 
@@ -11,6 +11,6 @@ pub mod parts;
 pub struct Topology {
     nodes: u8,
     links: Vec<Link>,
-    ghost few: { (0 < nodes) × (nodes ≤ 64) },
+    ghost few: { IsNodeCount nodes },
     ghost ordered: { rising nodes links.items ≡ true },
 }

@@ -1,16 +1,17 @@
 // The bytes of a list of links: 1, the number of nodes, the number of links (2), and for each link the lower node,
 // the higher node and the cost (2), in rising order; the high byte comes first.
-ghost use Rattle.std.specs.Prelude.{◌≡◌, ℕ, ◌+◌, ◌*◌, ◌<◌, ◌≤◌, true, ◌++◌, length, drop, IfOk, MatchOption, MatchResult};
+ghost use Rattle.std.specs.Prelude.{◌≡◌, ◌+◌, ◌*◌, ◌<◌, ◌≤◌, true, ◌++◌, length, drop, IfOk, MatchOption, MatchResult};
 ghost use Rattle.std.specs.List.{flat_map};
-ghost use Rattle.links.specs.Answer.{Collects, Refusal, ReadWhole};
-ghost use Rattle.links.specs.Links.{precedes, rising};
-ghost use Rattle.links.specs.Wire.{link_at, link_bytes, link_fault, header_fault, read_links, Read, reading, written};
+ghost use Rattle.links.specs.Answer.{Refusal, ReadWhole, OrMemory};
+ghost use Rattle.links.specs.Links.{rising, start, IsNodeCount};
+ghost use Rattle.links.specs.Wire.{link_at, link_bytes, check_link, check_header, last_link, read_links, Read, reading, written};
 ghost use Rattle.links.specs.declared.fault.Fault.TheVariants.{Memory};
 
 use crate::fault::Fault;
 use crate::link::Link;
 use crate::node::NodeId;
 use std::alloc::{AllocFailed, Global};
+use std::fmt;
 
 // Why a list is refused, and the byte at which the faulty piece begins.
 #[derive(Clone, Copy, PartialEq, Eq, Debug)]
@@ -30,28 +31,44 @@ impl<T: Drop> From<AllocFailed<T>> for ReadError {
     }
 }
 
+// One line that says which rule is broken, where, and how.
+impl fmt::Display for ReadError {
+    fn fmt<W: fmt::Write>(&self, f: &mut fmt::Formatter<W>) -> fmt::Result {
+        let ReadError { fault, at } = *self;
+        match fault.number() {
+            Some(number) => write!(f, "fault {number}: at byte {at}: {fault}"),
+            None => write!(f, "{fault}"),
+        }
+    }
+}
+
+// Only the rule that is broken.
+impl From<ReadError> for Fault {
+    ghost from_gives = { λ e r. r ≡ e.fault };
+
+    fn from(error: ReadError) -> Fault {
+        error.fault
+    }
+}
+
 // Two bytes as a number, the high one first.
 pub fn number(high: u8, low: u8) -> u16
     ensures { result ≡ high * 256 + low }
 {
-    u16::from(high) * 256 + u16::from(low)
+    u16::from_be_bytes([high, low])
 }
 
 // The four bytes of a link.
 fn link_bytes(link: Link) -> [u8; 4]
     ensures { result ≡ link_bytes link }
 {
-    [
-        link.a.0,
-        link.b.0,
-        (link.cost / 256) as u8,
-        (link.cost % 256) as u8,
-    ]
+    let [high, low] = link.cost.to_be_bytes();
+    [link.a.0, link.b.0, high, low]
 }
 
 // The links behind what is written already.
 fn write_links(links: &[Link], out: &mut Vec<u8>) -> Result<(), Fault>
-    ensures { MatchResult result (λ _. out.new.items ≡ (out.old.items ++ flat_map link_bytes links.now)) (λ f. f ≡ Memory) }
+    ensures { OrMemory result (λ _. out.new.items ≡ (out.old.items ++ flat_map link_bytes links.now)) }
 {
     for link in links {
         out.extend_from_slice(&link_bytes(*link))?;
@@ -74,78 +91,64 @@ fn next_link(bytes: &[u8]) -> Option<(Link, &[u8])>
     Some((link, rest))
 }
 
-// Does p come before l?
-fn precedes(p: Link, l: Link) -> bool
-    ensures { result ≡ precedes p l }
+// A link may follow the last one, if there is one yet, or is refused.
+fn check_link(nodes: u8, last: Option<Link>, link: Link) -> Result<(), Fault>
+    ensures { result ≡ check_link nodes (last_link last) link }
 {
-    p.a.0 < l.a.0 || (p.a.0 == l.a.0 && p.b.0 < l.b.0)
-}
-
-// Why a link may not follow the last one, if so.
-fn link_fault(nodes: u8, last: Link, link: Link) -> Option<Fault>
-    ensures { result ≡ link_fault nodes last link }
-{
-    if link.a.0 >= nodes || link.b.0 >= nodes {
-        Some(Fault::NodeOutOfRange)
-    } else if link.cost == 0 {
-        Some(Fault::ZeroCost)
-    } else if link.a.0 == link.b.0 {
-        Some(Fault::SelfLink)
-    } else if link.b.0 < link.a.0 {
-        Some(Fault::HigherFirst)
-    } else if precedes(last, link) {
-        None
+    link.a.check(nodes)?;
+    link.b.check(nodes)?;
+    if link.cost == 0 {
+        Err(Fault::ZeroCost)
+    } else if link.a == link.b {
+        Err(Fault::SelfLink)
+    } else if link.b < link.a {
+        Err(Fault::HigherFirst)
+    } else if last.is_some_and(|p| (p.a, p.b) >= (link.a, link.b)) {
+        Err(Fault::NotRising)
     } else {
-        Some(Fault::NotRising)
+        Ok(())
     }
 }
 
-// Why a header is refused, if so.
-fn header_fault(kind: u8, nodes: u8) -> Option<Fault>
-    ensures { result ≡ header_fault kind nodes }
+fn check_header(kind: u8, nodes: u8) -> Result<(), Fault>
+    ensures { result ≡ check_header kind nodes }
 {
     if kind != 1 {
-        Some(Fault::UnknownKind)
-    } else if nodes == 0 || nodes > 64 {
-        Some(Fault::NodeCount)
+        Err(Fault::UnknownKind)
+    } else if !(1..=64).contains(&nodes) {
+        Err(Fault::NodeCount)
     } else {
-        None
+        Ok(())
     }
 }
 
-// The links that are not yet read, handed on as a part of the bytes: so many are left, after the last one.
-fn read_links(
-    bytes: &[u8],
-    size: usize,
-    nodes: u8,
-    left: u16,
-    last: Link,
-    links: &mut Vec<Link>,
-) -> Result<(), ReadError>
-    requires { length bytes.now ≤ size }
-    ensures { Collects result nodes links.old.items links.new.items (read_links left nodes last size bytes.now) }
+// So many links, and then the end. Those that are not yet read are handed on as the rest of the bytes, which begins at
+// the byte `at`.
+fn read_links(heap: Global, nodes: u8, count: u16, bytes: &[u8]) -> Result<Vec<Link>, ReadError>
+    ensures { MatchResult result (λ v. read_links count nodes start (4 + length bytes.now) bytes.now ≡ Read nodes v.items) (λ e. Refusal e (read_links count nodes start (4 + length bytes.now) bytes.now)) }
 {
-    let at = size - bytes.len();
-    if left == 0 {
-        if bytes.len() > 0 {
+    let mut links = Vec::new(heap);
+    let mut rest = bytes;
+    let mut at = 4;
+    for _ in 0..count {
+        let Some((link, more)) = next_link(rest) else {
             return Err(ReadError {
-                fault: Fault::TrailingBytes,
+                fault: Fault::Truncated,
                 at,
             });
-        }
-        return Ok(());
+        };
+        check_link(nodes, links.last().copied(), link).map_err(|fault| ReadError { fault, at })?;
+        links.push(link)?;
+        rest = more;
+        at += 4;
     }
-    let Some((link, rest)) = next_link(bytes) else {
+    if !rest.is_empty() {
         return Err(ReadError {
-            fault: Fault::Truncated,
+            fault: Fault::TrailingBytes,
             at,
         });
-    };
-    if let Some(fault) = link_fault(nodes, last, link) {
-        return Err(ReadError { fault, at });
     }
-    links.push(link)?;
-    read_links(rest, size, nodes, left - 1, link, links)
+    Ok(links)
 }
 
 // A whole list: its header, and then its links.
@@ -158,36 +161,21 @@ pub(crate) fn read_list(heap: Global, bytes: &[u8]) -> Result<(u8, Vec<Link>), R
             at: 0,
         });
     };
-    if let Some(fault) = header_fault(*kind, *nodes) {
-        return Err(ReadError { fault, at: 0 });
-    }
-    let first = Link {
-        a: NodeId(0),
-        b: NodeId(0),
-        cost: 0,
-    };
-    let mut links = Vec::new(heap);
-    read_links(
-        rest,
-        bytes.len(),
-        *nodes,
-        number(*high, *low),
-        first,
-        &mut links,
-    )?;
+    check_header(*kind, *nodes).map_err(|fault| ReadError { fault, at: 0 })?;
+    let links = read_links(heap, *nodes, number(*high, *low), rest)?;
     Ok((*nodes, links))
 }
 
 // A whole list as bytes.
 pub(crate) fn write_list(heap: Global, nodes: u8, links: &[Link]) -> Result<Vec<u8>, Fault>
-    requires few { (0 < nodes) × (nodes ≤ 64) }
+    requires few { IsNodeCount nodes }
     requires ordered { rising nodes links.now ≡ true }
-    ensures value { MatchResult result (λ v. v.items ≡ written nodes links.now) (λ f. f ≡ Memory) }
+    ensures value { OrMemory result (λ v. v.items ≡ written nodes links.now) }
     ensures back { IfOk result (λ v. reading v.items ≡ Read nodes links.now) }
 {
-    let count = links.len();
+    let [high, low] = (links.len() as u16).to_be_bytes();
     let mut out = Vec::new(heap);
-    out.extend_from_slice(&[1, nodes, (count / 256) as u8, (count % 256) as u8])?;
+    out.extend_from_slice(&[1, nodes, high, low])?;
     write_links(links, &mut out)?;
     Ok(out)
 }

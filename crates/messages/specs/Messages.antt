@@ -8,7 +8,7 @@ use Rattle.messages.specs.declared.message.Sent.{Sent}
 
 abbrev pub message_of : Message → protocol.Message
 message_of (LinkDown l) = protocol.LinkDown (ends l)
-message_of (Switched u d l) = protocol.Switched u.0 d.0 (ends l)
+message_of (Switched m) = protocol.Switched m.from.0 m.destination.0 (ends m.link)
 
 abbrev pub sent_of : Sent → protocol.Sent
 sent_of m = record { from = m.from.0; to = m.to.0; message = message_of m.message }

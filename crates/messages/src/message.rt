@@ -1,19 +1,23 @@
 use links::link::LinkId;
 use links::node::NodeId;
 
-// A link has failed; or `from` has switched for the destination, since that link has failed.
-#[derive(Clone, Copy)]
+// `from` has switched for the destination, since that link has failed.
+#[derive(Clone, Copy, PartialEq, Eq, Debug)]
+pub struct Switched {
+    pub from: NodeId,
+    pub destination: NodeId,
+    pub link: LinkId,
+}
+
+// A link has failed; or a router has switched.
+#[derive(Clone, Copy, PartialEq, Eq, Debug)]
 pub enum Message {
     LinkDown(LinkId),
-    Switched {
-        from: NodeId,
-        destination: NodeId,
-        link: LinkId,
-    },
+    Switched(Switched),
 }
 
 // A message from a router to a neighbour.
-#[derive(Clone, Copy)]
+#[derive(Clone, Copy, PartialEq, Eq, Debug)]
 pub struct Sent {
     pub from: NodeId,
     pub to: NodeId,

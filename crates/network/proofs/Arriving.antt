@@ -1,8 +1,9 @@
 -- Messages that arrive. Assumes nothing.
-use Rattle.std.proofs.Common.{◌≡◌, ℕ, zero, suc, ◌<◌, ◌≤◌, Bool, true, false, cond, ◌||◌, eqb, ltb, ◌⊎◌, List, [], ◌∷◌, ◌++◌, length, get_or, set, Some, Ok, Err, vec_items, Result, sym, refl, ap, ◌∙◌, subst, ap₂, inl, inr, arith}
+use Rattle.std.proofs.Common.{◌≡◌, ℕ, zero, suc, ◌<◌, Bool, true, false, cond, ◌||◌, eqb, ltb, ◌⊎◌, List, [], ◌∷◌, length, get_or, set, Some, Ok, Err, vec_items, Result, sym, refl, ap, ◌∙◌, subst, ap₂, inl, inr, arith}
 use mathlib.Core.Path.{fun_ext}
-use Rattle.std.proofs.lemmas.List.{get_or_past, get_or_at, get_or_append_left, length_push, get_or-set_same, get_or-set_other}
-use Rattle.std.proofs.lemmas.Bool.{cases_lt, cases_eq, eq-eqb, ne_eqb, cond-true, cond-false, and_parts, ltb-true, both_ways}
+use Rattle.std.proofs.lemmas.List.{get_or-set_same, get_or-set_other}
+use Rattle.std.proofs.lemmas.Bool.{cases_eq, eq-eqb, ne_eqb, cond-true, cond-false, and_parts, ltb-true, both_ways}
+use Rattle.std.specs.Result.{IsErrAnd}
 use Rattle.links.specs.declared.fault.Fault.{Fault}
 use Rattle.links.specs.declared.fault.Fault.TheVariants.{Memory}
 use Rattle.messages.specs.Messages.{message_of, sent_of, sents}
@@ -16,17 +17,6 @@ use Rattle.network.specs.Model.{system, has_come, path_of_packet}
 use Rattle.network.specs.declared.network.Network.{Network}
 use Rattle.network.specs.declared.arrival.Arrival.{Arrival}
 use Rattle.network.specs.declared.arrival.Arrival.TheVariants.{NotYet}
-
--- an entry that says what was so without it
-pub room_more : (old now new : List Arrival) → SameArrivals old now → new ≡ now ++ NotYet ∷ [] → SameArrivals old new
-room_more old now new h e j = ap (λ l. get_or l j NotYet) e ∙ (by (cases_lt j (length now)) ∙ h j)
-  where
-    by : (j < length now) ⊎ (length now ≤ j) → get_or (now ++ NotYet ∷ []) j NotYet ≡ get_or now j NotYet
-    by (inl l) = get_or_append_left now (NotYet ∷ []) NotYet j l
-    by (inr l) = elim (cases_eq j (length now)) [
-      | inl w ↦ get_or_at now NotYet [] NotYet j (sym w) ∙ sym (get_or_past now j NotYet l)
-      | inr w ↦ get_or_past (now ++ NotYet ∷ []) j NotYet (omega (arith, length_push now NotYet)) ∙ sym (get_or_past now j NotYet l)
-    ]
 
 -- a message by its number
 nth_at : (ms : List Sent) (k : ℕ) (m : Sent) → k < length ms → m ≡ get_or ms k m → nth (sents ms) k ≡ Some (sent_of m)
@@ -125,3 +115,8 @@ not_come k over old mid far (Err f) b u w m h e = inr (e, record { is = h.0.is �
 pub room_made : (old new : Network) → SameArrivals (vec_items old.arrivals) (vec_items new.arrivals) → system new ≡ with_came (λ k. has_come (get_or (vec_items new.arrivals) k NotYet)) (system old) →
     ((p : ℕ) → path_of_packet new p ≡ path_of_packet old p) → Becomes old new (system old)
 room_made old new s e p = record { is = e ∙ ap (λ f. with_came f (system old)) (fun_ext (λ k. ap has_come (s k))); paths = p; waiting = λ k. ap is_over (s k) }
+
+-- nor where there is no room for its entry
+pub no_room : (k : ℕ) (over : Bool) (old new : Network) (r : Result (Unit {0}) Fault) → IsErrAnd r (λ f. f ≡ Memory) → Becomes old new (system old) → CameAs k over old new r
+no_room k over old new (Ok x) h b = absurd h
+no_room k over old new (Err f) h b = inr (h, b)

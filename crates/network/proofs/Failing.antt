@@ -1,6 +1,7 @@
 -- A link fails, and its ends notice. Assumes nothing.
 use Rattle.std.proofs.Common.{◌≡◌, ℕ, Bool, eqb, ◌⊎◌, Ok, Err, Result, sym, refl, ap, ◌∙◌, subst, inl, inr}
 use Rattle.std.proofs.lemmas.Bool.{cond-false, ne_eqb}
+use Rattle.std.specs.Result.{IsErrAnd}
 use Rattle.links.specs.declared.fault.Fault.{Fault}
 use Rattle.links.specs.declared.fault.Fault.TheVariants.{Memory, NoSuchLink}
 use Rattle.theory.specs.Network.{LinkId}
@@ -8,7 +9,7 @@ use Rattle.protocol.specs.Hearing.{hear, hear_down}
 use Rattle.protocol.specs.Router as protocol
 use Rattle.protocol.specs.Router.{among, LinkDown}
 use Rattle.protocol.specs.System.{System, go_on, notices}
-use Rattle.switchover.specs.Failures.{Accepts}
+use Rattle.switchover.specs.Failures.{Accepts, Judged}
 use Rattle.switchover.specs.Replies.{RefusedBy}
 use Rattle.network.specs.Events.{Becomes, HeardAs, FailAsked}
 use Rattle.network.specs.Model.{system, outside}
@@ -19,6 +20,14 @@ pub hear_outside : (w : ℕ) (m : protocol.Message) → RefusedBy (hear outside 
 unfolding among
 hear_outside w (protocol.LinkDown l) = refl
 hear_outside w (protocol.Switched u d l) = refl
+
+pub judged_outside : (u : ℕ) (l : LinkId) (s : protocol.Router) (r : Result (Unit {0}) Fault) → s ≡ outside → IsErrAnd r (λ f. f ≡ NoSuchLink) → Judged (hear_down l s) r
+judged_outside u l s (Ok x) e h = absurd h
+judged_outside u l s (Err f) e h = rw (e, h) (hear_outside u (LinkDown l))
+
+pub heard_outside : (u w : ℕ) (m : protocol.Message) (old new : Network) (r : Result (Unit {0}) Fault) → (system old).routers u ≡ outside → IsErrAnd r (λ f. f ≡ NoSuchLink) → Becomes old new (system old) → HeardAs u w m old new r
+heard_outside u w m old new (Ok x) e h b = absurd h
+heard_outside u w m old new (Err f) e h b = (b, inl (rw (e, h) (hear_outside w m)))
 
 pub then : (old mid new : Network) (σ τ : System) → Becomes old mid σ → Becomes mid new τ → Becomes old new τ
 then old mid new σ τ a b = record { is = b.is; paths = λ p. b.paths p ∙ a.paths p; waiting = λ k. b.waiting k ∙ a.waiting k }

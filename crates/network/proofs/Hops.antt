@@ -27,9 +27,6 @@ with_flights σ f = record { routers = σ.routers; said = σ.said; came = σ.cam
 pub no_flight : (js : List Journey) (q : ℕ) → length js ≤ q → flight_at js q ≡ NoPacket
 no_flight js q h = get_or_past (map flight_of js) q NoPacket (omega (arith, length-map js flight_of))
 
-no_path : (js : List Journey) (q : ℕ) → length js ≤ q → path_at js q ≡ []
-no_path js q h = get_or_past (map path_of js) q [] (omega (arith, length-map js path_of))
-
 -- a packet is put under the next number
 pub put_system : (rs : List Router) (ms : List Sent) (cs : List Arrival) (js : List Journey) (j : Journey) (u : ℕ) (p : Packet) → flight_of j ≡ UnderWay u 0 p →
     system_of rs ms cs (js ++ j ∷ []) ≡ step (Put (length js) u p) (system_of rs ms cs js)
@@ -42,16 +39,6 @@ put_path js j l h = push_at path_of js j l [] h (length js) ∙ cond-true (eqb (
 
 pub put_others : (js : List Journey) (j : Journey) (p : ℕ) → (p ≡ length js → ⊥) → path_at (js ++ j ∷ []) p ≡ path_at js p
 put_others js j p h = push_at path_of js j (path_of j) [] refl p ∙ cond-false (eqb p (length js)) (path_of j) _ (ne_eqb p (length js) h)
-
--- there is no such packet
-pub none_moves : (rs : List Router) (ms : List Sent) (cs : List Arrival) (js : List Journey) (q : ℕ) → length js ≤ q → system_of rs ms cs js ≡ step (Hop q) (system_of rs ms cs js)
-none_moves rs ms cs js q h = ap (with_flights (system_of rs ms cs js)) (fun_ext (λ k. elim (cases_eq k q) [
-  | inl w ↦ ap (flight_at js) w ∙ (no_flight js q h ∙ (sym (ap (moved (router_at rs)) (no_flight js q h)) ∙ sym (cond-true (eqb k q) (moved (router_at rs) (flight_at js q)) (flight_at js k) (eq-eqb k q w))))
-  | inr w ↦ sym (cond-false (eqb k q) (moved (router_at rs) (flight_at js q)) (flight_at js k) (ne_eqb k q w))
-]))
-
-pub none_path : (rs : List Router) (ms : List Sent) (cs : List Arrival) (js : List Journey) (q : ℕ) → length js ≤ q → path_at js q ≡ path_at js q ++ goes_to (system_of rs ms cs js) q
-none_path rs ms cs js q h = no_path js q h ∙ sym (ap₂ (λ l x. l ++ next_node (router_at rs (node_in x)) x) (no_path js q h) (no_flight js q h))
 
 -- it matters only which router is where it is
 there : (f : ℕ → protocol.Router) (s : protocol.Router) (x : Flight) → f (node_in x) ≡ s → moved (λ u. s) x ≡ moved f x

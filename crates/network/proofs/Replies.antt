@@ -145,8 +145,3 @@ switch_asked u d old new (Err f) h = (by h.1, h.0)
     by : RefusedBy (switch ((system old).routers u) d) f ⊎ (f ≡ Memory) → f ≡ Memory
     by (inl x) = absurd (switch_accepts ((system old).routers u) d f x)
     by (inr x) = x
-
--- outside the network nothing switches
-pub switch_outside : (u d : ℕ) (old new : Network) → Beside old new → system new ≡ system old → length (vec_items old.routers) ≤ u → Becomes old new (go_on (system old) u (system old).came (switch ((system old).routers u) d))
-switch_outside u d old new b e h =
-    becomes old new _ b (e ∙ sym (ap (λ s. go_on (system old) u (system old).came (switch s d)) (no_router (vec_items old.routers) u h)))

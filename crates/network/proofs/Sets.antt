@@ -1,6 +1,5 @@
 -- One place of a list set anew, or added, as a function of the place. Assumes nothing.
-use Rattle.std.proofs.Common.{◌≡◌, ℕ, ◌<◌, ◌≤◌, cond, eqb, ◌⊎◌, List, [], ◌∷◌, ◌++◌, map, length, get_or, set, Some, None, Option, sym, ap, ◌∙◌, subst, inl, inr, arith, Bor, MatchOption}
-use Rattle.std.specs.Slice.{IsGetResult}
+use Rattle.std.proofs.Common.{◌≡◌, ℕ, ◌<◌, ◌≤◌, cond, eqb, ◌⊎◌, List, [], ◌∷◌, ◌++◌, map, length, get_or, set, sym, ap, ◌∙◌, inl, inr, arith}
 use Rattle.std.proofs.lemmas.List.{map-set, map_push, get_or-map, get_or-set_same, get_or-set_other, get_or_past, get_or_at, get_or_append_left, length-map, length_push}
 use Rattle.std.proofs.lemmas.Bool.{cases_eq, cases_lt, cond-true, cond-false, eq-eqb, ne_eqb}
 
@@ -27,13 +26,3 @@ push_at f xs x y e h k = ap (λ ys. get_or ys k e) (map_push f xs x) ∙ elim (c
     other (inr l) w =
         get_or_past (map f xs ++ f x ∷ []) k e (omega (arith, length_push (map f xs) (f x), length-map xs f)) ∙
         sym (get_or_past (map f xs) k e (omega (arith, length-map xs f)))
-
--- an item that was looked for, by what is read off it
-pub read_item : {X Y : Type 0} (f : X → Y) (xs ys : List X) (i : ℕ) (e : Y) (r : Option (Bor X)) → ys ≡ xs → IsGetResult ys i i r → MatchOption r (length xs ≤ i) (λ x. f x.now ≡ get_or (map f xs) i e)
-read_item f xs ys i e None w h = subst (λ l. length l ≤ i) w h.3
-read_item f xs ys i e (Some x) w h = sym (read_at f xs i x.now e (subst (λ l. i < length l) w h.3.0) (subst (λ l. x.now ≡ get_or l i x.now) w h.1))
-
-pub read_both : {X Y Z : Type 0} (f : X → Y) (g : X → Z) (xs ys : List X) (i : ℕ) (d : Y) (e : Z) (r : Option (Bor X)) → ys ≡ xs → IsGetResult ys i i r →
-    MatchOption r (length xs ≤ i) (λ x. (f x.now ≡ get_or (map f xs) i d) × (g x.now ≡ get_or (map g xs) i e))
-read_both f g xs ys i d e None w h = read_item f xs ys i d None w h
-read_both f g xs ys i d e (Some x) w h = (read_item f xs ys i d (Some x) w h, read_item g xs ys i e (Some x) w h)

@@ -92,7 +92,3 @@ one_more u d first now next (ds, b, o) (inr h) =
       record { is = h.is ∙ (ap (step (Switch u d)) b.is ∙ switch_last u d ds (system first)); paths = w.paths; waiting = w.waiting },
       subst (Only (d + 1)) (sym (ap (λ (σ : System). σ.routers u) h.is ∙ here (system now) u (system now).came (switch ((system now).routers u) d))) (only_more d ((system now).routers u) o),
     )
-
--- where memory is wanting
-pub some_switched : (u d : ℕ) (first now next : Network) → SwitchedSo u d first now → Becomes now next (system now) → (ds : List ℕ) × Becomes first next (run (switches u ds) (system first))
-some_switched u d first now next (ds, b, o) h = let w = then first now next _ _ b h in (ds, record { is = w.is ∙ b.is; paths = w.paths; waiting = w.waiting })

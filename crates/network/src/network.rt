@@ -12,8 +12,9 @@ pub mod events;
 pub mod lookups;
 pub mod sending;
 
-// A whole network: its routers by their nodes, every message that was sent, the oldest first, with how far it is (those
-// that have no entry have not come yet), and the packets by their numbers.
+// A whole network: its routers by their nodes, every message that was sent, the oldest first, and the packets by their
+// numbers. How far a message is stands in a list of its own, since routers put messages behind a list of messages; those
+// that have no entry have not come yet, so that a message needs none before it arrives.
 #[derive(Drop)]
 pub struct Network {
     routers: Vec<Router>,

@@ -1,7 +1,6 @@
 -- Own node segments, one after another. Assumes nothing.
-use Rattle.std.proofs.Common.{◌≡◌, ℕ, true, false, eqb, List, [], ◌∷◌, map, drop, sym, refl, ap, ◌∙◌}
-use Rattle.std.proofs.lemmas.Bool.{both_ways, cond-true, cond-false}
-use Rattle.protocol.specs.Packet.{strip, Packet, NodeSeg}
+use Rattle.std.proofs.Common.{◌≡◌, ℕ, true, false, List, [], ◌∷◌, map, drop, sym, refl, ap, ◌∙◌, rules}
+use Rattle.protocol.specs.Packet.{strip, Packet}
 use Rattle.packets.specs.Segments.{segment_of, own_in}
 use Rattle.packets.specs.Packets.{with_segments, behind_first, stripped}
 use Rattle.packets.specs.declared.segment.Segment.{Segment}
@@ -9,14 +8,14 @@ use Rattle.packets.specs.declared.segment.Segment.TheVariants.{Node, Link}
 
 own : (u : ℕ) (xs : List Segment) → true ≡ own_in u xs → strip u (drop 1 (map segment_of xs)) ≡ strip u (map segment_of xs)
 unfolding strip
-own u [] h = absurd (both_ways true h refl)
-own u (Node x ∷ xs) h = sym (cond-true (eqb x.0 u) (strip u (map segment_of xs)) (NodeSeg x.0 ∷ map segment_of xs) (sym h))
-own u (Link a b ∷ xs) h = absurd (both_ways true h refl)
+own u [] h = search rules
+own u (Node x ∷ xs) h = search rules
+own u (Link a b ∷ xs) h = search rules
 
 other : (u : ℕ) (xs : List Segment) → false ≡ own_in u xs → map segment_of xs ≡ strip u (map segment_of xs)
 unfolding strip
 other u [] h = refl
-other u (Node x ∷ xs) h = sym (cond-false (eqb x.0 u) (strip u (map segment_of xs)) (NodeSeg x.0 ∷ map segment_of xs) (sym h))
+other u (Node x ∷ xs) h = search rules
 other u (Link a b ∷ xs) h = refl
 
 -- the first one is taken off, and so on

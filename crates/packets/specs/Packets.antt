@@ -1,11 +1,11 @@
 -- A packet in the protocol's words, and what may be changed of it. Assumes nothing.
 use Rattle.std.specs.Prelude.{ℕ, ◌+◌, ◌-◌, cond, List, [], ◌∷◌, ◌++◌, length, drop, Some, None, Option, ◌==◌, nat_le}
 use Rattle.protocol.specs.Packet as protocol
-use Rattle.packets.specs.Segments.{shown}
+use Rattle.packets.specs.Segments.{segments_of}
 use Rattle.packets.specs.declared.packet.Packet.{Packet}
 
 abbrev pub packet_of : Packet → protocol.Packet
-packet_of p = record { dest = p.destination.0; hop_limit = p.hop_limit; segments = shown p.count p.segments }
+packet_of p = record { dest = p.destination.0; hop_limit = p.hop_limit; segments = segments_of p.segments }
 
 -- as its sender makes it
 abbrev pub fresh : ℕ → List protocol.Segment → protocol.Packet

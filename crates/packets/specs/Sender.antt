@@ -3,11 +3,11 @@ use Rattle.std.specs.Prelude.{◌≡◌, ◌<◌, ◌≤◌, List, [], ◌∷◌
 use Rattle.links.specs.declared.fault.Fault.{Fault}
 use Rattle.links.specs.declared.fault.Fault.TheVariants.{TooManySenderSegments}
 use Rattle.protocol.specs.Packet.{Segment}
-use Rattle.packets.specs.Segments.{shown}
-use Rattle.packets.specs.declared.sender.SenderSegments.{SenderSegments}
+use Rattle.packets.specs.Segments.{segments_of}
+use Rattle.packets.specs.declared.segments.Segments.{Segments}
 
-abbrev pub sender_segments : SenderSegments → List Segment
-sender_segments s = shown s.count s.segments
+abbrev pub sender_segments : Segments 3 → List Segment
+sender_segments = segments_of
 
 -- one more behind the others, where there are fewer than three
 abbrev pub Pushed : List Segment → Segment → List Segment → {A : Type 0} → Result A Fault → Type 0

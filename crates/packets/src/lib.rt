@@ -3,4 +3,5 @@
 
 pub mod packet;
 pub mod segment;
+pub mod segments;
 pub mod sender;

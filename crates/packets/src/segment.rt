@@ -1,9 +1,7 @@
 use links::node::NodeId;
 
-pub mod arrays;
-
 // Go to a node; or over the link from a node to a neighbour.
-#[derive(Clone, Copy)]
+#[derive(Clone, Copy, PartialEq, Eq, Debug)]
 pub enum Segment {
     Node(NodeId),
     Link { from: NodeId, to: NodeId },

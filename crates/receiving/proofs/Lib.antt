@@ -1,4 +1,3 @@
 pub mod Switches
 pub mod Taking
 pub mod Written
-pub mod Parted

@@ -24,22 +24,12 @@ pub record SaidOut (old new : Router) (said : List Sent) (before after : List �
   pub settled : SettleAsked old new said all {A = Unit {0}} (Ok tt)
   pub bytes : after ≡ before ++ flat_map sent_bytes all
 
--- or memory is wanting
-abbrev pub HeardOut : (old new : Router) (said : List Sent) (before after : List ℕ) → {A : Type 0} → Result A Fault → Type 0
-HeardOut old new said before after (Ok _) = SaidOut old new said before after
-HeardOut old new said before after (Err f) = f ≡ Memory
-
 -- what is written of a frame that was accepted
 abbrev pub Out : Received → (old new : Router) (said : List Sent) (before after : List ℕ) → Type 0
 Out (received.Delivered p) old new said before after = HandedOut old.me p old new before after
 Out (received.Sent v p) old new said before after = HandedOut v.0 p old new before after
 Out received.Heard old new said before after = SaidOut old new said before after
 Out received.Listed old new said before after = (new ≡ old) × (after ≡ before)
-
--- or memory is wanting
-abbrev pub Finished : Received → (old new : Router) (said : List Sent) (before after : List ℕ) → {A : Type 0} → Result A Fault → Type 0
-Finished x old new said before after (Ok _) = Out x old new said before after
-Finished x old new said before after (Err f) = f ≡ Memory
 
 -- a frame is accepted: what comes of it is done, and written
 pub record FrameAccepted (w : ℕ) (bs : List ℕ) (old new : Router) (before after : List ℕ) : Type 0 where

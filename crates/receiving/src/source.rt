@@ -10,24 +10,17 @@ use wire::origin::Origin;
 pub(crate) fn may_come(router: &Router, from: NodeId) -> bool
     ensures { result ≡ neighbourly (model router.now) from.0 }
 {
-    if from.0 == router.forwarder().node().0 {
-        return true;
-    }
-    match router
-        .forwarder()
-        .link_cost(router.forwarder().node(), from)
-    {
-        Some(_) => true,
-        None => false,
-    }
+    let me = router.forwarder().node();
+    from == me || router.forwarder().link_cost(me, from).is_some()
 }
 
 // Whose packet it is.
 pub(crate) fn origin_of(router: &Router, from: NodeId) -> Origin
     ensures { result ≡ origin_of (model router.now) from.0 }
 {
-    if from.0 == router.forwarder().node().0 {
-        return Origin::Sender;
+    if from == router.forwarder().node() {
+        Origin::Sender
+    } else {
+        Origin::Neighbour
     }
-    Origin::Neighbour
 }

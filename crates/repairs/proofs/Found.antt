@@ -1,20 +1,18 @@
 -- What is found along the post-convergence path, and what it says of the entry. Assumes nothing.
-use Rattle.std.proofs.Common.{◌≡◌, ℕ, ◌+◌, ◌*◌, ◌<◌, ◌≤◌, true, false, cond, eqb, List, length, get_or, set, Some, None, Option, sym, ap, ◌∙◌, inl, inr, arith}
-use Rattle.std.proofs.lemmas.Bool.{eqb-true, eqb-false, cases_eq, cases_Bool, cond-true, cond-false}
+use Rattle.std.proofs.Common.{◌≡◌, ℕ, ◌+◌, ◌*◌, ◌<◌, ◌≤◌, true, false, cond, List, length, get_or, set, Some, None, Option, sym, ap, ◌∙◌, inl, inr, arith}
+use Rattle.std.proofs.lemmas.Bool.{cases_eq, cond-true, cond-false}
 use Rattle.std.proofs.lemmas.List.{get_or-set_same, get_or-set_other}
 use borrow.Rule.Slice.PartMut.{put_mid}
 use Rattle.routes.proofs.Rows.{put_below, put_in, put_above}
 use Rattle.repairs.proofs.Right.{own_link_lem, right}
 use Rattle.repairs.specs.Table.{RowLaid, LinkLaid}
 use Rattle.repairs.specs.Entries.{meaning}
-use Rattle.routes.specs.Costs.{link_cost}
 use Rattle.theory.specs.Repair.{via, later, repair, sends, last_reached, laid_by, laid, Repair, Unused}
 use Rattle.theory.specs.NextHop.{next_hop, path}
 use Rattle.theory.specs.Network.{without, Network, Lawful}
 use Rattle.theory.proofs.Reached.{reached}
 use Rattle.theory.proofs.NextHops.{same_eq}
 use Rattle.theory.proofs.HopPaths.{path_stop, path_to}
-use Rattle.theory.proofs.Paths.{none_some}
 use Rattle.repairs.specs.declared.repair.Entry.{Entry}
 use Rattle.repairs.specs.declared.repair.Entry.TheVariants as entries
 
@@ -45,19 +43,6 @@ pub laid_found : (z y : Network) → Lawful z → (s f d : ℕ) → y ≡ withou
 laid_found z y g s f d e t o h =
     let k = reached z g (record { a = s; b = f }) s f d (own_link_lem s f) (same_eq (next_hop z d s) (Some f) t) in
     ap laid_by (h ∙ (ap (λ x. last_reached z s f s (path x d s)) e ∙ k)) ∙ sym (cond-true (sends z s f d) (laid_by (repair z (record { a = s; b = f }) s d)) Unused t)
-
--- what the cost says
-pub no_cost : (z : Network) (a b : ℕ) → None ≡ link_cost z a b → z.cost a b ≡ 0
-no_cost z a b e = elim (cases_Bool (eqb (z.cost a b) 0)) [
-  | inl t ↦ eqb-true (z.cost a b) 0 t
-  | inr t ↦ absurd (none_some (z.cost a b) (e ∙ cond-false (eqb (z.cost a b) 0) None (Some (z.cost a b)) t))
-]
-
-pub some_cost : (z : Network) (a b c : ℕ) → Some c ≡ link_cost z a b → 0 < z.cost a b
-some_cost z a b c e = elim (cases_Bool (eqb (z.cost a b) 0)) [
-  | inl t ↦ absurd (none_some c (sym (e ∙ cond-true (eqb (z.cost a b) 0) None (Some (z.cost a b)) t)))
-  | inr t ↦ omega (arith, eqb-false (z.cost a b) 0 t)
-]
 
 -- one entry more of a row
 pub row_more : (z : Network) (s f k : ℕ) (row : List Entry) (e : Entry) → k < length row → RowLaid z s f k row → meaning e ≡ laid z s f k → RowLaid z s f (k + 1) (set row k e)

@@ -1,2 +1,4 @@
 pub mod Text
 pub mod Links
+pub mod Detours
+pub mod Values

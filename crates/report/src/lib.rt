@@ -1,7 +1,8 @@
 // What lay prints, as bytes: the distances, the next-hop tables and the repairs of a network.
 #![tactic(auto)]
 
-ghost use Rattle.std.specs.Prelude.{◌≡◌, MatchResult};
+ghost use Rattle.std.specs.Prelude.{◌≡◌, string_bytes};
+ghost use Rattle.links.specs.Answer.{OrMemory};
 ghost use Rattle.links.specs.Topology.{network, links_of};
 ghost use Rattle.links.specs.declared.fault.Fault.TheVariants.{Memory};
 ghost use Rattle.routes.specs.Routes.{routes_network};
@@ -16,26 +17,26 @@ use links::topology::Topology;
 use routes::routes::Routes;
 use std::alloc::Global;
 
-mod detours;
+pub mod detours;
 mod tables;
-mod text;
 
 // The whole plan of a network.
 pub fn plan(heap: Global, topology: &Topology) -> Result<Vec<u8>, Fault>
-    ensures { MatchResult result (λ v. v.items ≡ plan (network topology.now) (links_of topology.now)) (λ f. f ≡ Memory) }
+    ensures { OrMemory result (λ v. v.items ≡ plan (network topology.now) (links_of topology.now)) }
 {
     topology.lawful_holds();
-    plan_of(heap, &Routes::of(topology), topology.links())
+    let text = plan_of(heap, &Routes::of(topology), topology.links())?;
+    Ok(text.into_bytes())
 }
 
 // The same from its routes.
-fn plan_of(heap: Global, routes: &Routes, links: &[Link]) -> Result<Vec<u8>, Fault>
+fn plan_of(heap: Global, routes: &Routes, links: &[Link]) -> Result<String, Fault>
     requires { Joined (routes_network routes.now) links.now }
-    ensures { MatchResult result (λ v. v.items ≡ plan (routes_network routes.now) links.now) (λ f. f ≡ Memory) }
+    ensures { OrMemory result (λ t. string_bytes t ≡ plan (routes_network routes.now) links.now) }
 {
-    let mut out = Vec::new(heap);
+    let mut out = String::new(heap);
     push_tables(&mut out, routes)?;
-    out.extend_from_slice(b"detours\n")?;
+    out.push_str("detours\n")?;
     push_detours(&mut out, routes, links)?;
     Ok(out)
 }

@@ -1,85 +1,71 @@
 // The parts that have a row for each node and a column for each destination.
-ghost use Rattle.std.specs.Prelude.{◌≡◌, ◌<◌, ◌++◌, decimal, MatchResult};
-ghost use Rattle.links.specs.declared.fault.Fault.TheVariants.{Memory};
+ghost use Rattle.std.specs.Prelude.{◌≡◌, Some, ℕ, ◌++◌, OnOk, Option, string_bytes};
 ghost use Rattle.routes.specs.Routes.{routes_network};
-ghost use Rattle.report.specs.Text.{cell, cells, row, value, part, tables};
+ghost use Rattle.report.specs.Text.{cell, cells, rows, tables};
+ghost use Rattle.report.specs.Values.{Gives, GivesRow};
 
-use crate::text::{push_cell, push_number};
-use links::fault::Fault;
 use links::node::NodeId;
 use routes::routes::Routes;
+use std::alloc::AllocError;
+use std::fmt;
 
+// A cell: a number, or '-' for none.
 #[derive(Clone, Copy)]
-pub enum Part {
-    Distances,
-    Tables,
+struct Cell(Option<u32>);
+
+impl fmt::Display for Cell {
+    ghost output = { λ c. Some (cell c.0) };
+
+    fn fmt<W: fmt::Write>(&self, f: &mut fmt::Formatter<W>) -> fmt::Result {
+        match self.0 {
+            Some(number) => write!(f, "{number}"),
+            None => f.write_str("-"),
+        }
+    }
 }
 
 // The number of nodes, the distances and the next hops.
-pub(crate) fn push_tables(out: &mut Vec<u8>, routes: &Routes) -> Result<(), Fault>
-    ensures { MatchResult result (λ _. out.new.items ≡ (out.old.items ++ tables (routes_network routes.now))) (λ f. f ≡ Memory) }
+pub(crate) fn push_tables(out: &mut String, routes: &Routes) -> Result<(), AllocError>
+    ensures { OnOk result (string_bytes out.new ≡ (string_bytes out.old ++ tables (routes_network routes.now))) }
 {
     let nodes = routes.nodes();
-    out.extend_from_slice(b"places ")?;
-    push_number(out, nodes as u32)?;
-    out.extend_from_slice(b"\ndistances\n")?;
-    push_rows(out, routes, Part::Distances, nodes)?;
-    out.extend_from_slice(b"tables\n")?;
-    push_rows(out, routes, Part::Tables, nodes)?;
-    Ok(())
+    write!(out, "places {nodes}\ndistances\n")?;
+    push_rows(out, nodes, |a, d| routes.distance(NodeId(d), NodeId(a)))?;
+    out.push_str("tables\n")?;
+    push_rows(out, nodes, |a, d| {
+        let hop = routes.next_hop(NodeId(d), NodeId(a))?;
+        Some(u32::from(hop.0))
+    })
 }
 
-// What stands in the row of a and the column of d.
-fn value_at(routes: &Routes, which: Part, a: u8, d: u8) -> Option<u32>
-    requires { (a < (routes_network routes.now).n) × (d < (routes_network routes.now).n) }
-    ensures { result ≡ value (routes_network routes.now) which a d }
-{
-    match which {
-        Part::Distances => routes.distance(NodeId(d), NodeId(a)),
-        Part::Tables => match routes.next_hop(NodeId(d), NodeId(a)) {
-            Some(NodeId(e)) => Some(u32::from(e)),
-            None => None,
-        },
-    }
-}
-
-// The rows of all nodes.
-fn push_rows(out: &mut Vec<u8>, routes: &Routes, which: Part, nodes: u8) -> Result<(), Fault>
-    requires { nodes ≡ (routes_network routes.now).n }
-    ensures { MatchResult result (λ _. out.new.items ≡ (out.old.items ++ part (routes_network routes.now) which)) (λ f. f ≡ Memory) }
+// The rows of all nodes: in that of a, for each d, the value of both.
+fn push_rows<F: Fn(u8, u8) -> Option<u32>>(
+    out: &mut String,
+    nodes: u8,
+    value: F,
+) -> Result<(), AllocError>
+    requires { F.IsAlwaysCallable value }
+    ensures { (v : ℕ → ℕ → Option ℕ) → Gives nodes (F.post value) v → OnOk result (string_bytes out.new ≡ (string_bytes out.old ++ rows nodes (λ a d. cell (v a d)) nodes)) }
 {
     for a in 0..nodes {
-        push_row(out, routes, which, a, nodes)?;
+        write!(out, "{a}:")?;
+        push_cells(out, nodes, |d| value(a, d))?;
+        out.push_str("\n")?;
     }
     Ok(())
 }
 
-// The row of a.
-fn push_row(out: &mut Vec<u8>, routes: &Routes, which: Part, a: u8, nodes: u8) -> Result<(), Fault>
-    requires { (nodes ≡ (routes_network routes.now).n) × (a < nodes) }
-    ensures { MatchResult result (λ _. out.new.items ≡ (out.old.items ++ row (decimal a) (λ d. cell (value (routes_network routes.now) which a d)) nodes)) (λ f. f ≡ Memory) }
-{
-    push_number(out, a as u32)?;
-    out.push(b':')?;
-    push_cells(out, routes, which, a, nodes)?;
-    out.push(b'\n')?;
-    Ok(())
-}
-
-// Its cells, a space before each.
-fn push_cells(
-    out: &mut Vec<u8>,
-    routes: &Routes,
-    which: Part,
-    a: u8,
+// The cells of a row, a space before each.
+fn push_cells<F: Fn(u8) -> Option<u32>>(
+    out: &mut String,
     nodes: u8,
-) -> Result<(), Fault>
-    requires { (nodes ≡ (routes_network routes.now).n) × (a < nodes) }
-    ensures { MatchResult result (λ _. out.new.items ≡ (out.old.items ++ cells (λ d. cell (value (routes_network routes.now) which a d)) nodes)) (λ f. f ≡ Memory) }
+    value: F,
+) -> Result<(), AllocError>
+    requires { F.IsAlwaysCallable value }
+    ensures { (v : ℕ → Option ℕ) → GivesRow nodes (F.post value) v → OnOk result (string_bytes out.new ≡ (string_bytes out.old ++ cells (λ d. cell (v d)) nodes)) }
 {
     for d in 0..nodes {
-        out.push(b' ')?;
-        push_cell(out, value_at(routes, which, a, d))?;
+        write!(out, " {}", Cell(value(d)))?;
     }
     Ok(())
 }

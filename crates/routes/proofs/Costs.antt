@@ -1,13 +1,13 @@
 -- Rows of 64 costs: what they say of each two nodes, and how links are written into them. Assumes nothing.
-use Rattle.std.proofs.Common.{◌≡◌, ℕ, zero, suc, ◌+◌, ◌-◌, ◌*◌, ◌<◌, ◌≤◌, true, false, cond, ◌&&◌, eqb, ltb, List, [], ◌∷◌, length, get_or, take, drop, set, replicate, sym, refl, ap, ◌∙◌, subst, inl, inr, arith, length-set}
+use Rattle.std.proofs.Common.{◌≡◌, ℕ, zero, suc, ◌+◌, ◌-◌, ◌*◌, ◌<◌, ◌≤◌, true, false, cond, ◌&&◌, eqb, ltb, List, [], ◌∷◌, length, get_or, drop, set, replicate, reverse, sym, refl, ap, ap₂, ◌∙◌, subst, inl, inr, arith, length-set}
 use mathlib.Core.Path.{fun_ext}
 use Rattle.std.proofs.lemmas.Bool.{ltb-true, lt-ltb, eq-eqb, cases_lt, and_parts, cases_eq, cases_Bool, and_from, or_left, cond-true, cond-false, cond_both}
-use Rattle.std.proofs.lemmas.List.{length-drop, get_or-replicate, length-take-le, get_or-set_same, get_or-set_other, get_or-take, get_or-drop, drop_all, drop_more}
+use Rattle.std.proofs.lemmas.List.{get_or-replicate, get_or-set_same, get_or-set_other, drop_all, drop_more, get_or-reverse, get_or_default, length-reverse}
 use Rattle.links.specs.Link.{ends_of}
 use Rattle.links.specs.Links.{start, rising_from, rising, cost_in, network_of}
 use Rattle.links.proofs.Lawful.{rising_parts, lawful, limited}
 use Rattle.routes.specs.Matrix.{matrix_network}
-use Rattle.routes.specs.Costs.{cost_at, network_in, Symmetric, Loopless, Light, Row, Written, Left}
+use Rattle.routes.specs.Costs.{cost_at, network_in, put, Symmetric, Loopless, Light, Written, Left}
 use Rattle.theory.specs.Network.{joins, Lawful, Limited, LinkId}
 use Rattle.theory.proofs.Joins.{joins_symmetric, joins_ends}
 use Rattle.theory.proofs.Without.{lawful_without}
@@ -67,17 +67,13 @@ rising_at n p (l ∷ ls) (suc i) d t h = rising_at n l ls i d (rising_parts n p 
 
 -- writing the links from the last to the first
 
-pub holds_none : (n : ℕ) (ls : List Link) → n ≤ 64 → Holds n (cost_in (drop (length ls) ls)) (replicate 4096 0)
+pub holds_none : (n : ℕ) (ls : List Link) → n ≤ 64 → Holds n (cost_in (drop (length ls - 0) ls)) (replicate 4096 0)
 unfolding cost_in
-holds_none n ls h a b p = get_or-replicate {A = ℕ} 4096 (a * 64 + b) 0 0 (omega (arith, p.0, p.1)) ∙ sym (ap (λ l. cost_in l a b) (drop_all (length ls) ls (omega arith)))
+holds_none n ls h a b p = get_or-replicate {A = ℕ} 4096 (a * 64 + b) 0 0 (omega (arith, p.0, p.1)) ∙ sym (ap (λ l. cost_in l a b) (drop_all (length ls - 0) ls (omega arith)))
 
 joined : (r : LinkId) (x y : ℕ) → (x ≡ r.a) × (y ≡ r.b) → joins r x y ≡ true
 joined r x y e =
     or_left (eqb x r.a && eqb y r.b) (eqb x r.b && eqb y r.a) (and_from (eqb x r.a) (eqb y r.b) (eq-eqb x r.a e.0) (eq-eqb y r.b e.1))
-
--- both cells of the link between a and b are written
-abbrev pub put : ℕ → ℕ → ℕ → List ℕ → List ℕ
-put a b v m = set (set m (a * 64 + b) v) (b * 64 + a) v
 
 put_at : (a b v : ℕ) (m : List ℕ) → a < 64 → b < 64 → length m ≡ 4096 → (x y : ℕ) → y < 64 → get_or (put a b v m) (x * 64 + y) 0 ≡ cond (joins (record { a = a; b = b }) x y) v (get_or m (x * 64 + y) 0)
 put_at a b v m p q len x y w =
@@ -108,14 +104,23 @@ unfolding cost_in
 put_holds n l ls m few p q len h x y w =
     put_at l.a.0 l.b.0 l.cost m (omega arith) (omega arith) len x y (omega (arith, w.1)) ∙ ap (λ c. cond (joins (ends_of l) x y) l.cost c) (h x y w)
 
-pub holds_more : (n : ℕ) (ls : List Link) (i : ℕ) (m : List ℕ) → n ≤ 64 → rising n ls ≡ true → 0 < i → i ≤ length ls → length m ≡ 4096 →
-    Holds n (cost_in (drop i ls)) m → Holds n (cost_in (drop (i - 1) ls)) (put (get_or ls (i - 1) start).a.0 (get_or ls (i - 1) start).b.0 (get_or ls (i - 1) start).cost m)
-holds_more n ls i m few t p q len h =
-    let l = get_or ls (i - 1) start in
-    let b = rising_at n start ls (i - 1) start t (omega arith) in
-    let e : i - 1 + 1 ≡ i = omega arith in
-    let d : drop (i - 1) ls ≡ (l ∷ drop i ls) = drop_more ls (i - 1) start (omega arith) ∙ ap (λ k. l ∷ drop k ls) e in
-    subst (λ r. Holds n (cost_in r) (put l.a.0 l.b.0 l.cost m)) (sym d) (put_holds n l (drop i ls) m few (omega (arith, b.0, b.1)) b.1 len h)
+-- the link that comes next, once k were taken from the end of the list
+pub from_end : (n : ℕ) (ls : List Link) (k : ℕ) (l : Link) → rising n ls ≡ true → (k < length (reverse ls)) × (l ≡ get_or (reverse ls) k l) →
+    (k < length ls) × (drop (length ls - (k + 1)) ls ≡ (l ∷ drop (length ls - k) ls)) × (l.a.0 < l.b.0) × (l.b.0 < n)
+from_end n ls k l t h =
+    let q : k < length ls = omega (arith, h.0, length-reverse ls) in
+    let i = length ls - (k + 1) in
+    let j : length ls - 1 - k ≡ i = omega arith in
+    let e : l ≡ get_or ls i start = h.1 ∙ (get_or-reverse ls k l q ∙ (ap (λ x. get_or ls x l) j ∙ get_or_default ls i l start (omega arith))) in
+    let u : i + 1 ≡ length ls - k = omega arith in
+    let b = subst (λ (x : Link). (x.a.0 < x.b.0) × (x.b.0 < n)) (sym e) (rising_at n start ls i start t (omega arith)) in
+    (q, drop_more ls i start (omega arith) ∙ ap₂ (λ x y. x ∷ drop y ls) (sym e) u, b.0, b.1)
+
+pub holds_more : (n : ℕ) (ls : List Link) (k : ℕ) (l : Link) (m : List ℕ) → n ≤ 64 → rising n ls ≡ true → (k < length (reverse ls)) × (l ≡ get_or (reverse ls) k l) → length m ≡ 4096 →
+    Holds n (cost_in (drop (length ls - k) ls)) m → Holds n (cost_in (drop (length ls - (k + 1)) ls)) (put l.a.0 l.b.0 l.cost m)
+holds_more n ls k l m few t q len h =
+    let e = from_end n ls k l t q in
+    rw e.1 (put_holds n l (drop (length ls - k) ls) m few (omega (arith, e.2, e.3)) e.3 len h)
 
 -- a link taken out
 
@@ -134,15 +139,6 @@ cost_put n a b m few p q len x y = elim (cases_lt x n) [
     nothing : ((x < n) × (y < n) → ⊥) → cost_at n (put a b 0 m) x y ≡ cond (joins (record { a = a; b = b }) x y) 0 (cost_at n m x y)
     nothing h = cost_outside n (put a b 0 m) x y h ∙ cond_both (joins (record { a = a; b = b }) x y) 0 (cost_at n m x y) (λ c. 0 ≡ c) (λ _. refl) (λ _. sym (cost_outside n m x y h))
 
--- no link ends outside
-cost_none : (n a b : ℕ) (m : List ℕ) → ((a < n) × (b < n) → ⊥) → (x y : ℕ) → cost_at n m x y ≡ cond (joins (record { a = a; b = b }) x y) 0 (cost_at n m x y)
-cost_none n a b m h x y = cond_both (joins (record { a = a; b = b }) x y) 0 (cost_at n m x y) (λ c. cost_at n m x y ≡ c)
-    (λ t. elim (joins_ends (record { a = a; b = b }) x y t) [
-      | inl e ↦ cost_outside n m x y (λ i. h (omega (arith, i.0, e.0), omega (arith, i.1, e.1)))
-      | inr e ↦ cost_outside n m x y (λ i. h (omega (arith, i.1, e.1), omega (arith, i.0, e.0)))
-    ])
-    (λ _. refl)
-
 left_of : (n a b : ℕ) (old new : List ℕ) → Symmetric n old → Loopless n old → Light n old → ((x y : ℕ) → cost_at n new x y ≡ cond (joins (record { a = a; b = b }) x y) 0 (cost_at n old x y)) → Left n (record { a = a; b = b }) old new
 left_of n a b old new both none light e =
     let r : LinkId = record { a = a; b = b } in
@@ -157,9 +153,6 @@ left_of n a b old new both none light e =
 pub left_put : (n a b : ℕ) (m : List ℕ) → n ≤ 64 → a < n → b < n → length m ≡ 4096 → Symmetric n m → Loopless n m → Light n m → Left n (record { a = a; b = b }) m (put a b 0 m)
 left_put n a b m few p q len both none light = left_of n a b m (put a b 0 m) both none light (cost_put n a b m few p q len)
 
-pub left_same : (n a b : ℕ) (m : List ℕ) → ((a < n) × (b < n) → ⊥) → Symmetric n m → Loopless n m → Light n m → Left n (record { a = a; b = b }) m m
-left_same n a b m h both none light = left_of n a b m m both none light (cost_none n a b m h)
-
 -- a matrix is a lawful network
 
 pub matrix_lawful : (m : CostMatrix) → Lawful (matrix_network m)
@@ -167,12 +160,3 @@ matrix_lawful m = record { symmetric = m.symmetric; loopless = m.loopless; withi
 
 pub matrix_limited : (m : CostMatrix) → Limited (matrix_network m)
 matrix_limited m = record { few = m.few.1; light = m.light }
-
--- and its rows are parts of it
-pub row_of : (n : ℕ) (m : List ℕ) (u : ℕ) → n ≤ 64 → u < n → length m ≡ 4096 → Row (network_in n m) u (take (u * 64 + n - u * 64) (drop (u * 64) m))
-row_of n m u few h len =
-    let e : u * 64 + n - u * 64 ≡ n = omega arith in
-    record {
-      size = ap (λ k. length (take k (drop (u * 64) m))) e ∙ length-take-le n (drop (u * 64) m) (omega (arith, length-drop (u * 64) m));
-      each = λ b l. get_or-take (u * 64 + n - u * 64) (drop (u * 64) m) b 0 (omega arith) ∙ (get_or-drop (u * 64) m b 0 ∙ sym (cost_in_lem n m u b h l));
-    }

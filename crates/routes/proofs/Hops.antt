@@ -1,8 +1,7 @@
 -- What distances in memory say of the next hops. Assumes nothing.
-use Rattle.std.proofs.Common.{◌≡◌, ℕ, ◌+◌, ◌<◌, ◌≤◌, eqb, ◌⊎◌, List, length, get_or, set, Some, None, Option, sym, refl, ap, ◌∙◌, inl, inr, arith}
+use Rattle.std.proofs.Common.{◌≡◌, ℕ, ◌+◌, ◌<◌, ◌≤◌, eqb, ◌⊎◌, List, get_or, Some, None, Option, sym, refl, ap, ◌∙◌, inl, inr, arith}
 use Rattle.std.proofs.lemmas.Bool.{ne_eqb, cases_lt, cases_eq, cases_Bool, cond-true, cond-false}
-use Rattle.std.proofs.lemmas.List.{get_or-set_same, get_or-set_other}
-use Rattle.routes.specs.NextHops.{hop_of, HopRow, IsFirst, Near}
+use Rattle.routes.specs.NextHops.{hop_of, IsFirst, Near}
 use Rattle.routes.specs.Distances.{decoded, Filled}
 use Rattle.routes.specs.Costs.{Row}
 use Rattle.theory.specs.NextHop.{next_hop, AsNear}
@@ -67,10 +66,3 @@ module _ (z : Network) (g : Lawful z) (s : Limited z) (d : ℕ) (l : List ℕ) (
           near = near_next e.0 (omega (arith, n.within, r.size)) n.near;
           lowest = λ y x. elim (cases_lt y e.0) [ inl i ↦ absurd (n.first y i (next_near y x)) | inr i ↦ i ];
         }))
-
--- one more of a row
-pub hops_more : (z : Network) (d a : ℕ) (l : List (Option NodeId)) (h : Option NodeId) → a < length l → HopRow z d a l → hop_of h ≡ next_hop z d a → HopRow z d (a + 1) (set l a h)
-hops_more z d a l h p old new x q = elim (cases_eq x a) [
-  | inl e ↦ rw (e, get_or-set_same l a h None p) new
-  | inr e ↦ rw (get_or-set_other l a x h None e) (old x (omega arith))
-]

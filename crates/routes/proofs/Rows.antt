@@ -1,14 +1,12 @@
 -- Rows of 64, one written after another. Assumes nothing.
-use Rattle.std.proofs.Common.{◌≡◌, ℕ, ◌+◌, ◌-◌, ◌*◌, ◌<◌, ◌≤◌, true, eqb, List, ◌++◌, length, get_or, take, Some, None, sym, ap, ◌∙◌, inl, inr, arith}
-use Rattle.std.proofs.lemmas.Bool.{ne_eqb, cases_eq, cond-false}
+use Rattle.std.proofs.Common.{◌≡◌, ℕ, ◌+◌, ◌-◌, ◌<◌, ◌≤◌, eqb, List, ◌++◌, length, get_or, take, Some, None, sym, ap, ◌∙◌, arith}
+use Rattle.std.proofs.lemmas.Bool.{ne_eqb, cond-false}
 use Rattle.std.proofs.lemmas.List.{get_or_append_left, length-take-le, get_or-take, get_or-drop, get_or-append_right}
 use Rattle.std.proofs.lemmas.Slice.{drop-put_mid}
 use borrow.Rule.Slice.PartMut.{put_mid, post_of}
 use Rattle.routes.specs.Distances.{decoded}
-use Rattle.theory.specs.NextHop.{same}
 use Rattle.theory.specs.Distance.{distance}
 use Rattle.theory.specs.Network.{Network, Lawful, Limited}
-use Rattle.theory.proofs.NextHops.{same_eq}
 use Rattle.theory.proofs.HopPaths.{bounded}
 
 -- what a list holds after a part of it was written
@@ -29,17 +27,8 @@ put_above s k xs ys i v h e l =
     (sym (get_or-drop (s + k) (put_mid s k xs ys) (i - (s + k)) v) ∙
     (ap (λ l. get_or l (i - (s + k)) v) (drop-put_mid s k xs ys (s + k) (omega arith) h e) ∙ (get_or-drop (s + k) xs (i - (s + k)) v ∙ ap (λ x. get_or xs x v) j)))
 
--- what holds of the rows below d and of row d, as it is written, holds of the rows below d + 1
-pub rows_more : {X : Type 0} (P : ℕ → ℕ → X → Type 0) (n d k : ℕ) (xs ys : List X) (v : X) → n ≤ 64 → d < n → length xs ≡ 4096 → length ys ≡ n →
-    ((e a : ℕ) → (e < d) × (a < n) → P e a (get_or xs (e * 64 + a) v)) → ((a : ℕ) → a < n → P d a (get_or ys a v)) →
-    (e a : ℕ) → (e < d + 1) × (a < n) → P e a (get_or (put_mid (d * 64) k xs ys) (e * 64 + a) v)
-rows_more P n d k xs ys v few l size len old row e a p = elim (cases_eq e d) [
-  | inl x ↦ rw (x, put_in (d * 64) k xs ys a v (omega arith) (omega (arith, p.1))) (row a p.1)
-  | inr x ↦ rw (put_below (d * 64) k xs ys (e * 64 + a) v (omega arith) (omega (arith, p.0, p.1))) (old e a (omega (arith, p.0), p.1))
-]
-
 -- an entry that is a distance
-pub read_some : (z : Network) → Lawful z → Limited z → (d a x : ℕ) → (x ≡ 4294967295 → ⊥) → same (decoded x) (distance z d a) ≡ true → (Some x ≡ distance z d a) × (x ≤ 4128705)
+pub read_some : (z : Network) → Lawful z → Limited z → (d a x : ℕ) → (x ≡ 4294967295 → ⊥) → decoded x ≡ distance z d a → (Some x ≡ distance z d a) × (x ≤ 4128705)
 read_some z g s d a x h t =
-    let e : Some x ≡ distance z d a = sym (cond-false (eqb x 4294967295) None (Some x) (ne_eqb x 4294967295 h)) ∙ same_eq (decoded x) (distance z d a) t in
+    let e : Some x ≡ distance z d a = sym (cond-false (eqb x 4294967295) None (Some x) (ne_eqb x 4294967295 h)) ∙ t in
     (e, bounded z g s d a x (sym e))

@@ -3,7 +3,7 @@ use Rattle.std.proofs.Common.{◌≡◌, ℕ, suc, ◌+◌, ◌-◌, ◌*◌, �
 use Rattle.std.proofs.lemmas.Bool.{both_ways, ltb-true, ltb-false, lt-ltb, eq-eqb, ne_eqb, cases_lt, and_parts, cases_eq, cases_Bool, and_cases, cond-true, cond-false, cond_both}
 use Rattle.std.proofs.lemmas.List.{length-take-le, get_or-set_same, get_or-set_other, get_or-take}
 use Rattle.routes.specs.Distances.{decoded, Filled}
-use Rattle.routes.specs.Dijkstra.{relaxed, number_at, Numbered, Below, NoneNearer, Nearest}
+use Rattle.routes.specs.Dijkstra.{relaxed, number_at, Numbered, NoneNearer, Nearest}
 use Rattle.routes.proofs.Unsettled.{unsettled_at, at_unsettled, unsettled_some, all_unsettled, Unsettled, gone, same_unsettled, unsettled_less}
 use Rattle.theory.specs.Distance.{IsPath, path_cost, distance, Found}
 use Rattle.theory.specs.Network.{Network, Lawful, Limited}
@@ -204,9 +204,6 @@ module _ (z : Network) (g : Lawful z) (s : Limited z) (d : ℕ) where
         let q : j < k = omega (arith, length-take-le k ns (omega (arith, i.unsettled.size, i.unsettled.few))) in
         (q, ap (λ (v : NodeId). v.0) (get_or-take k ns j (record { 0 = 0 }) q))
 
-    pub stands_within : Below (take k ns) (length l)
-    stands_within j h = let q = number_taken j h in omega (arith, q.1, i.unsettled.within j q.0, i.size)
-
     still_length : (j : ℕ) → j < k → j < length (take k ns)
     still_length j h = omega (arith, length-take-le k ns (omega (arith, i.unsettled.size, i.unsettled.few)))
 
@@ -263,10 +260,6 @@ module _ (z : Network) (g : Lawful z) (s : Limited z) (d : ℕ) where
         here = gone z.n ns m opened x below;
         others = λ v ne. same_unsettled z.n ns m opened x below v ne ∙ ap (λ j. unsettled_at ns j v) (sym c);
       }
-
-      -- near enough for one more link
-      pub stands_small : get_or l u 0 ≤ 4194240
-      stands_small = omega (arith, i.part.small u picks_of.within picks_of.some, s.few)
 
       pub stands_more : (q : List ℕ) → length q ≡ length l → ((e : ℕ) → e < z.n → get_or q e 0 ≡ relaxed (z.cost u e) (get_or l u 0) (get_or l e 0)) → Standing z d fewer m q
       stands_more q o r =

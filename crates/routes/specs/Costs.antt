@@ -1,5 +1,5 @@
 -- A network as rows of 64 costs, a row for each node. Assumes nothing.
-use Rattle.std.specs.Prelude.{◌≡◌, ℕ, ◌+◌, ◌*◌, ◌<◌, ◌≤◌, cond, ◌&&◌, List, length, Some, None, Option, ◌==◌, nat_lt, slice_index}
+use Rattle.std.specs.Prelude.{◌≡◌, ℕ, ◌+◌, ◌*◌, ◌<◌, ◌≤◌, cond, ◌&&◌, List, length, Some, None, Option, ◌==◌, nat_lt, slice_index, slice_set}
 use Rattle.links.specs.Links.{network_of}
 use Rattle.theory.specs.Network.{Network, LinkId, without}
 use Rattle.links.specs.declared.link.Link.{Link}
@@ -10,6 +10,10 @@ cost_at n m a b = cond (nat_lt a n && nat_lt b n) (slice_index m (a * 64 + b)) 0
 
 abbrev pub network_in : ℕ → List ℕ → Network
 network_in n m = record { n = n; cost = cost_at n m }
+
+-- the link between a and b costs v, both ways
+abbrev pub put : ℕ → ℕ → ℕ → List ℕ → List ℕ
+put a b v m = slice_set (slice_set m (a * 64 + b) v) (b * 64 + a) v
 
 -- l has the costs of the links of a
 pub record Row (z : Network) (a : ℕ) (l : List ℕ) : Type 0 where

@@ -1,10 +1,9 @@
 -- Distances as numbers of 32 bits, in slices and in rows of 64. Assumes nothing.
-use Rattle.std.specs.Prelude.{◌≡◌, ℕ, ◌+◌, ◌*◌, ◌<◌, ◌≤◌, true, cond, ◌⊎◌, List, length, Some, None, Option, Result, MatchResult, ◌==◌, ◌≢◌, slice_index}
+use Rattle.std.specs.Prelude.{◌≡◌, ℕ, ◌+◌, ◌*◌, ◌<◌, ◌≤◌, cond, ◌⊎◌, List, length, Some, None, Option, Result, MatchResult, ◌==◌, ◌≢◌, slice_index}
 use Rattle.links.specs.declared.fault.Fault.{Fault}
 use Rattle.links.specs.declared.fault.Fault.TheVariants.{NodeOutOfRange, WrongLength}
 use Rattle.theory.specs.Network.{Network}
 use Rattle.theory.specs.Distance.{distance}
-use Rattle.theory.specs.NextHop.{same}
 
 -- 2^32 - 1 stands for none
 abbrev pub decoded : ℕ → Option ℕ
@@ -15,9 +14,9 @@ pub record Filled (z : Network) (d : ℕ) (l : List ℕ) : Type 0 where
   pub size : length l ≡ z.n
   pub each : (a : ℕ) → a < z.n → decoded (slice_index l a) ≡ distance z d a
 
--- in the first k rows of 64, row d has the distance of each node from d: as a test, since a ghost field takes no equation of options
+-- in the first k rows of 64, row d has the distance of each node from d
 abbrev pub DistanceRows : Network → ℕ → List ℕ → Type 0
-DistanceRows z k l = (d a : ℕ) → (d < k) × (a < z.n) → same (decoded (slice_index l (d * 64 + a))) (distance z d a) ≡ true
+DistanceRows z k l = (d a : ℕ) → (d < k) × (a < z.n) → decoded (slice_index l (d * 64 + a)) ≡ distance z d a
 
 -- why the distances from d are not written into a slice of that length
 abbrev pub Refused : Network → ℕ → ℕ → Fault → Type 0

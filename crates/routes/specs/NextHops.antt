@@ -1,9 +1,9 @@
 -- Next hops as the code has them, and how they are found from distances. Assumes nothing.
-use Rattle.std.specs.Prelude.{◌≡◌, ℕ, ◌+◌, ◌-◌, ◌*◌, ◌<◌, true, List, map, length, get_or, None, Option, MatchOption, slice_index, slice_index_or}
+use Rattle.std.specs.Prelude.{◌≡◌, ℕ, ◌+◌, ◌-◌, ◌*◌, ◌<◌, List, map, length, get_or, None, Option, MatchOption, slice_index, slice_index_or}
 use Rattle.std.specs.Option.{option_map}
 use Rattle.links.specs.declared.node.NodeId.{NodeId}
 use Rattle.theory.specs.Network.{Network}
-use Rattle.theory.specs.NextHop.{next_hop, same}
+use Rattle.theory.specs.NextHop.{next_hop}
 
 -- a next hop by its number
 abbrev pub hop_of : Option NodeId → Option ℕ
@@ -19,7 +19,7 @@ HopRow z d k l = (a : ℕ) → a < k → hop_of (slice_index_or l a None) ≡ ne
 
 -- in the first k rows of 64, row d has the next hop of each node for d
 abbrev pub HopRows : Network → ℕ → List (Option NodeId) → Type 0
-HopRows z k l = (d a : ℕ) → (d < k) × (a < z.n) → same (hop_of (slice_index_or l (d * 64 + a) None)) (next_hop z d a) ≡ true
+HopRows z k l = (d a : ℕ) → (d < k) × (a < z.n) → hop_of (slice_index_or l (d * 64 + a) None) ≡ next_hop z d a
 
 -- a node at the distance here, whose links cost what row has, is as near by its neighbour e as it can be
 pub record Near (row dist : List ℕ) (here e : ℕ) : Type 0 where

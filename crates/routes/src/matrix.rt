@@ -1,5 +1,8 @@
-ghost use Rattle.std.specs.Prelude.{◌<◌, ◌≤◌};
-ghost use Rattle.routes.specs.Costs.{Symmetric, Loopless, Light};
+ghost use Rattle.std.specs.Prelude.{◌≡◌, ◌+◌, ◌*◌, ◌<◌, ◌≤◌, ◌⊎◌, ◌↔◌, IsTrue, MatchOption};
+ghost use Rattle.links.specs.Links.{IsNodeCount};
+ghost use Rattle.routes.specs.Costs.{put, Symmetric, Loopless, Light};
+
+use links::node::NodeId;
 
 pub mod build;
 pub mod distances;
@@ -8,13 +11,46 @@ pub mod parts;
 pub mod rows;
 pub mod without;
 
-// What the links of a network cost, in rows of 64, a row for each node: 0 where there is no link.
+// What the links of a network cost, in rows of 64, a row for each node: 0 where there is no link, as in the theory. An array,
+// as forwarding has no heap.
 #[derive(Drop)]
 pub struct CostMatrix {
     nodes: u8,
     costs: [u16; 4096],
-    ghost few: { (0 < nodes) × (nodes ≤ 64) },
+    ghost few: { IsNodeCount nodes },
     ghost symmetric: { Symmetric nodes costs },
     ghost loopless: { Loopless nodes costs },
     ghost light: { Light nodes costs },
+}
+
+// Where the entry of b stands in row a, in rows of 64.
+pub fn cell(a: NodeId, b: NodeId) -> usize
+    ensures { result ≡ a.0 * 64 + b.0 }
+{
+    a.0 as usize * 64 + b.0 as usize
+}
+
+// Writes what the link between a and b costs, both ways.
+fn put(costs: &mut [u16; 4096], a: NodeId, b: NodeId, cost: u16)
+    requires { (a.0 < 64) × (b.0 < 64) }
+    ensures { costs.new ≡ put a.0 b.0 cost costs.old }
+{
+    costs[cell(a, b)] = cost;
+    costs[cell(b, a)] = cost;
+}
+
+impl CostMatrix {
+    // Is it one of the nodes?
+    fn has(&self, a: NodeId) -> bool
+        ensures { IsTrue result ↔ a.0 < self.now.nodes }
+    {
+        a.is_below(self.nodes)
+    }
+
+    // The cell of row a and column b, if both are nodes.
+    pub(crate) fn place(&self, a: NodeId, b: NodeId) -> Option<usize>
+        ensures { MatchOption result ((self.now.nodes ≤ a.0) ⊎ (self.now.nodes ≤ b.0)) (λ i. (a.0 < self.now.nodes) × (b.0 < self.now.nodes) × (i ≡ a.0 * 64 + b.0)) }
+    {
+        (self.has(a) && self.has(b)).then(|| cell(a, b))
+    }
 }

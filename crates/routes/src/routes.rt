@@ -9,7 +9,8 @@ pub mod build;
 pub mod lookups;
 pub mod paths;
 
-// All distances and next hops of a network, in rows of 64: row d has those of each node for d.
+// All distances and next hops of a network, in rows of 64: row d has those of each node for d. Two arrays, as a row of
+// distances is lent as a slice.
 #[derive(Drop)]
 pub struct Routes {
     costs: CostMatrix,

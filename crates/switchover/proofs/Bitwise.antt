@@ -1,12 +1,15 @@
 -- What `|`, `&` and `!` do to one bit, and sets that are empty. Assumes nothing.
-use Rattle.std.proofs.Common.{◌≡◌, ℕ, zero, suc, ◌+◌, ◌-◌, ◌*◌, ◌/◌, ◌%◌, ◌^◌, ◌<◌, ◌≤◌, Bool, true, false, not, ◌&&◌, ◌||◌, eqb, get_or, replicate, sym, refl, ap, ◌∙◌, subst, ap₂, inl, inr, mod-eq_of_lt, mul_assoc, one-mul, arith, pow_mono}
+use Rattle.std.proofs.Common.{◌≡◌, ℕ, zero, suc, ◌+◌, ◌-◌, ◌*◌, ◌/◌, ◌%◌, ◌^◌, ◌<◌, ◌≤◌, Bool, true, false, not, ◌&&◌, ◌||◌, eqb, replicate, sym, refl, ap, ◌∙◌, subst, ap₂, inl, inr, mod-eq_of_lt, mul_assoc, one-mul, arith, pow_mono}
 use native.Mathlib.Nat.{div-eq_of_lt, div-div-eq-div-mul, pow-succ'}
 use lib.Bits.{bit_and, bit_or, bit_xor, and_mask, or_shr, or_mod, and_shr, and_mod, xor_shr, xor_mod, or_zero_r, and_zero_r, and_zero_l, xor_zero_r, xor_add_and, and_comm, shifted_even}
 use Rattle.std.proofs.lemmas.Nat.{one_shl, shl-shr, pow-add, pow_below, pow_pos, mod_below}
 use Rattle.std.proofs.lemmas.Bool.{cases_lt, cases_eq, eqb-false, eq-eqb, ne_eqb, not-true, not_from_false, and_parts, and_from, and_right}
 use Rattle.std.proofs.lemmas.Bool.Decides.{Decides-below_and, Decides-eqb}
+use Rattle.std.proofs.Math.Bool.{and-true}
 use Rattle.protocol.specs.Switching.{none_below}
-use Rattle.switchover.specs.Bits.{bit, Nobody}
+use Rattle.links.proofs.Arrays.{all_alike}
+use Rattle.switchover.specs.Bits.{bit, has, Nobody}
+use Rattle.switchover.specs.declared.node_set.NodeSet.{NodeSet}
 
 pub bit_test : (s u : ℕ) → eqb (bit_and (s / 2 ^ u) 1) 1 ≡ bit s u
 unfolding bit
@@ -86,10 +89,6 @@ not_bit u v h =
     ap (λ x. x / 2 ^ v % 2) (complement (one u) (mod_below (1 * 2 ^ u) 18446744073709551616 (omega arith))) ∙
     (ap (λ x. bit_xor 18446744073709551615 x / 2 ^ v % 2) (one_fits u h) ∙ xor_bit 18446744073709551615 (1 * 2 ^ u) v)
 
-pub and_true : (b : Bool) → (b && true) ≡ b
-and_true true = refl
-and_true false = refl
-
 -- `s & !(1 << u)` no longer has u
 pub bit_without : (s u : ℕ) → s < 18446744073709551616 → u < 64 → (v : ℕ) → bit (bit_and s (18446744073709551615 - one u)) v ≡ (bit s v && not (eqb v u))
 unfolding bit
@@ -105,7 +104,7 @@ bit_without s u f h v =
       | inr i ↦
           ap (λ x. eqb x 1) (e ∙ (ap (λ x. bit_and (s / 2 ^ v % 2) (bit_xor (18446744073709551615 / 2 ^ v % 2) x)) (one_other u v i) ∙
           (ap (bit_and (s / 2 ^ v % 2)) (xor_zero_r (18446744073709551615 / 2 ^ v % 2)) ∙ kept))) ∙
-          sym (ap (λ b. eqb (s / 2 ^ v % 2) 1 && not b) (ne_eqb v u i) ∙ and_true (eqb (s / 2 ^ v % 2) 1))
+          sym (ap (λ b. eqb (s / 2 ^ v % 2) 1 && not b) (ne_eqb v u i) ∙ and-true (eqb (s / 2 ^ v % 2) 1))
     ]
   where
     kept : bit_and (s / 2 ^ v % 2) (18446744073709551615 / 2 ^ v % 2) ≡ s / 2 ^ v % 2
@@ -121,13 +120,11 @@ pub bit_zero : (u : ℕ) → bit 0 u ≡ false
 unfolding bit
 bit_zero u = ap (λ (x : ℕ). eqb (x % 2) 1) (div-eq_of_lt (omega (arith, pow_pos u)))
 
-none_in : (k d : ℕ) → ◌≡◌ {A = ℕ} (get_or (replicate k 0) d 0) 0
-none_in zero d = refl
-none_in (suc k) zero = refl
-none_in (suc k) (suc d) = none_in k d
+abbrev nobody : NodeSet
+nobody = record { 0 = 0 }
 
-pub nobody_in : (k : ℕ) → Nobody (replicate k 0)
-nobody_in k d u = ap (λ s. bit s u) (none_in k d) ∙ bit_zero u
+pub nobody_in : (k : ℕ) → Nobody (replicate k nobody)
+nobody_in k d u = ap (λ s. has s u) (all_alike nobody k d) ∙ bit_zero u
 
 -- a set that nobody is in is empty
 bits_zero : (k s : ℕ) → s < 2 ^ k → ((u : ℕ) → bit s u ≡ false) → s ≡ 0

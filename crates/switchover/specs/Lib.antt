@@ -1,6 +1,5 @@
 pub mod Bits
 pub mod Model
-pub mod Started
 pub mod Replies
 pub mod Failures
 pub mod Switching

@@ -1,4 +1,4 @@
-// What a report that a link has failed is to a router.
+// What a report that a link has failed is to a router. A bool would not say which is which.
 #[derive(Clone, Copy)]
 pub(crate) enum Report {
     News,

@@ -1,9 +1,10 @@
 ghost use Rattle.forwarding.specs.Model.{model};
 ghost use Rattle.switchover.specs.Bits.{NobodyBeyond};
 
-use crate::early::Early;
+use crate::node_set::NodeSet;
 use forwarding::forwarder::Forwarder;
 use links::link::LinkId;
+use messages::message::Switched;
 
 pub mod build;
 pub mod expecting;
@@ -14,13 +15,13 @@ pub mod lookups;
 pub mod switching;
 pub mod telling;
 
-// A router: how it forwards, and, while it knows of a failure, by destination the neighbours that it waits for, as bits
-// of a number. Early messages and the links that it has taken out are kept in the order in which they came.
+// A router: how it forwards, and, while it knows of a failure, by destination the neighbours that it waits for. Messages
+// that came before it knew of the failure, and the links that it has taken out, are kept in the order in which they came.
 #[derive(Drop)]
 pub struct Router {
     forwarder: Forwarder,
-    pending: [u64; 64],
-    early: Vec<Early>,
+    pending: [NodeSet; 64],
+    early: Vec<Switched>,
     removed: Vec<LinkId>,
     ghost within: { NobodyBeyond (model forwarder).links.n pending },
 }

@@ -1,69 +1,50 @@
+use crate::printing::Number;
 use links::fault::Fault;
 use links::link::LinkId;
 use std::alloc::AllocError;
 use std::fmt;
+use thiserror::Error;
 
-// Why a line can't be played. Messages and packets are meant by their indices.
-#[derive(Clone, Copy)]
+// Why a line can't be played. Messages and packets are meant by their numbers.
+#[derive(Clone, Copy, Debug, Error)]
 pub enum BadLine {
+    #[error("not a text")]
     NotText,
+    #[error("no such command, or too few or too many words")]
     Unknown,
+    #[error("a message or packet that is not a number from 1")]
     Number,
+    #[error("a node that is not a number below {0}")]
     Node(u8),
+    #[error("a packet without a start or a destination")]
     NoEnds,
+    #[error("a segment from a node to itself")]
     SelfSegment,
-    Link(LinkId, Fault),
-    Message(usize),
-    Packet(usize),
-    Refused(Fault),
+    #[error("{0}")]
+    Link(RefusedLink),
+    #[error("word {0} is not under way")]
+    Message(Number),
+    #[error("packet {0} is not under way")]
+    Packet(Number),
+    #[error("{0}")]
+    Refused(#[from] Fault),
+    #[error("out of memory")]
+    Memory(#[from(alloc)] AllocError),
 }
 
-impl fmt::Display for BadLine {
+// A link that can't fail, and why. Want of memory has no number, and no link is to blame for it.
+#[derive(Clone, Copy, Debug)]
+pub struct RefusedLink {
+    pub link: LinkId,
+    pub fault: Fault,
+}
+
+impl fmt::Display for RefusedLink {
     fn fmt<W: fmt::Write>(&self, f: &mut fmt::Formatter<W>) -> fmt::Result {
-        match *self {
-            BadLine::NotText => f.write_str("not a text"),
-            BadLine::Unknown => f.write_str("no such command, or too few or too many words"),
-            BadLine::Number => f.write_str("a message or packet that is not a number from 1"),
-            BadLine::Node(nodes) => write!(f, "a node that is not a number below {nodes}"),
-            BadLine::NoEnds => f.write_str("a packet without a start or a destination"),
-            BadLine::SelfSegment => f.write_str("a segment from a node to itself"),
-            BadLine::Link(LinkId { a, b }, fault) => write_refused(f, a.0, b.0, fault),
-            BadLine::Message(k) => write_not_under_way(f, "word", k),
-            BadLine::Packet(q) => write_not_under_way(f, "packet", q),
-            BadLine::Refused(fault) => write!(f, "{fault}"),
+        let RefusedLink { link, fault } = *self;
+        match fault.number() {
+            Some(n) => write!(f, "link {link} refused {n}: {fault}"),
+            None => write!(f, "{fault}"),
         }
-    }
-}
-
-fn write_not_under_way<W: fmt::Write>(
-    f: &mut fmt::Formatter<W>,
-    what: &str,
-    index: usize,
-) -> fmt::Result {
-    let number = index.saturating_add(1);
-    write!(f, "{what} {number} is not under way")
-}
-
-fn write_refused<W: fmt::Write>(
-    f: &mut fmt::Formatter<W>,
-    a: u8,
-    b: u8,
-    fault: Fault,
-) -> fmt::Result {
-    match fault.number() {
-        Some(n) => write!(f, "link {a}-{b} refused {n}: {fault}"),
-        None => write!(f, "{fault}"),
-    }
-}
-
-impl From<Fault> for BadLine {
-    fn from(fault: Fault) -> BadLine {
-        BadLine::Refused(fault)
-    }
-}
-
-impl From<AllocError> for BadLine {
-    fn from(_e: AllocError) -> BadLine {
-        BadLine::Refused(Fault::Memory)
     }
 }

@@ -1,189 +1,236 @@
-// The lines that tear prints. Messages and packets have their indices' numbers, which count from 1.
+// The lines that tear prints.
+use forwarding::forwarder::Forwarder;
 use journeys::journey::{Journey, State};
 use links::fault::Fault;
-use links::link::LinkId;
 use links::node::NodeId;
-use messages::message::{Message, Sent};
+use messages::message::{Message, Sent, Switched};
 use network::network::Network;
-use std::alloc::AllocError;
+use std::fmt;
 use switchover::router::Router;
 
-pub fn print_closed(out: &mut String, link: LinkId) -> Result<(), AllocError> {
-    let (a, b) = (link.a.0, link.b.0);
-    writeln!(out, "closed {a}-{b}")
+// Messages, packets and lines are meant by their indices; what is printed counts from 1.
+#[derive(Clone, Copy, Debug)]
+pub struct Number(pub usize);
+
+impl fmt::Display for Number {
+    fn fmt<W: fmt::Write>(&self, f: &mut fmt::Formatter<W>) -> fmt::Result {
+        let number = self.0.saturating_add(1);
+        write!(f, "{number}")
+    }
 }
 
-// The messages under way.
-pub fn print_words(out: &mut String, network: &Network) -> Result<(), AllocError> {
-    let before = out.len();
-    for (k, sent) in network.messages().iter().enumerate() {
-        if network.is_message_under_way(k) {
-            print_word(out, k, *sent)?;
-        }
-    }
-    if out.len() == before {
-        out.push_str("no words\n")?;
-    }
-    Ok(())
-}
+// A message, from whom and to whom.
+#[derive(Clone, Copy)]
+struct Word(Sent);
 
-fn print_word(out: &mut String, k: usize, sent: Sent) -> Result<(), AllocError> {
-    let number = k.saturating_add(1);
-    let (from, to) = (sent.from.0, sent.to.0);
-    match sent.message {
-        Message::LinkDown(link) => {
-            let (a, b) = (link.a.0, link.b.0);
-            writeln!(out, "{number}: {from}>{to} closed {a}-{b}")
-        }
-        Message::Switched {
-            from: _,
-            destination,
-            link,
-        } => {
-            let (d, a, b) = (destination.0, link.a.0, link.b.0);
-            writeln!(out, "{number}: {from}>{to} over {d} {a}-{b}")
+impl fmt::Display for Word {
+    fn fmt<W: fmt::Write>(&self, f: &mut fmt::Formatter<W>) -> fmt::Result {
+        let Sent { from, to, message } = self.0;
+        match message {
+            Message::LinkDown(link) => write!(f, "{from}>{to} closed {link}"),
+            Message::Switched(
+                Switched {
+                    from: _,
+                    destination,
+                    link,
+                },
+            ) => write!(f, "{from}>{to} over {destination} {link}"),
         }
     }
 }
 
-pub fn print_refused(out: &mut String, k: usize, fault: Fault) -> Result<(), AllocError> {
-    let number = k.saturating_add(1);
-    write!(out, "word {number} refused")?;
-    print_fault(out, fault)?;
-    out.push_str("\n")
-}
+// A line for each message under way.
+#[derive(Clone, Copy)]
+pub struct Words<'a>(pub &'a Network);
 
-// Whom the router u waits for before it switches for d, if it waits.
-pub fn print_waits(
-    out: &mut String,
-    router: &Router,
-    u: NodeId,
-    d: NodeId,
-    nodes: u8,
-) -> Result<(), AllocError> {
-    if router.forwarder().failure().is_none() || router.forwarder().has_switched(d) {
-        return Ok(());
-    }
-    let (u, to) = (u.0, d.0);
-    write!(out, "over {u} {to}: waits for")?;
-    for v in 0..nodes {
-        if router.waits_for(d, NodeId(v)) {
-            write!(out, " {v}")?;
+impl fmt::Display for Words<'_> {
+    fn fmt<W: fmt::Write>(&self, f: &mut fmt::Formatter<W>) -> fmt::Result {
+        let network = self.0;
+        let mut none = true;
+        for (k, sent) in network.messages().iter().enumerate() {
+            if network.is_message_under_way(k) {
+                none = false;
+                writeln!(f, "{}: {}", Number(k), Word(*sent))?;
+            }
         }
-    }
-    out.push_str("\n")
-}
-
-// Where a packet is, or how it ended and the whole path from its start.
-pub fn print_packet(out: &mut String, network: &Network, q: usize) -> Result<(), AllocError> {
-    match network.journey(q) {
-        Some(journey) => print_journey(out, journey, q.saturating_add(1)),
-        None => Ok(()),
-    }
-}
-
-fn print_journey(out: &mut String, journey: &Journey, number: usize) -> Result<(), AllocError> {
-    match journey.state() {
-        State::UnderWay => return print_place(out, journey, number),
-        State::Delivered => {
-            print_path(out, journey, number)?;
-            out.push_str(" arrived")?;
+        if none {
+            f.write_str("no words\n")?;
         }
-        State::Dropped(fault) => {
-            print_path(out, journey, number)?;
-            out.push_str(" dropped")?;
-            print_fault(out, fault)?;
-        }
+        Ok(())
     }
-    let cost = journey.spent();
-    writeln!(out, " cost {cost}")
-}
-
-fn print_place(out: &mut String, journey: &Journey, number: usize) -> Result<(), AllocError> {
-    let NodeId(u) = journey.at();
-    writeln!(out, "packet {number} at {u}")
-}
-
-fn print_path(out: &mut String, journey: &Journey, number: usize) -> Result<(), AllocError> {
-    write!(out, "packet {number}:")?;
-    for NodeId(u) in journey.path() {
-        write!(out, " {u}")?;
-    }
-    Ok(())
 }
 
 // A space, and the number of a fault.
-fn print_fault(out: &mut String, fault: Fault) -> Result<(), AllocError> {
-    match fault.number() {
-        Some(n) => write!(out, " {n}"),
-        None => Ok(()),
+#[derive(Clone, Copy)]
+struct FaultNumber(Fault);
+
+impl fmt::Display for FaultNumber {
+    fn fmt<W: fmt::Write>(&self, f: &mut fmt::Formatter<W>) -> fmt::Result {
+        match self.0.number() {
+            Some(n) => write!(f, " {n}"),
+            None => Ok(()),
+        }
+    }
+}
+
+// A message that is refused where it arrives.
+#[derive(Clone, Copy)]
+pub struct RefusedWord {
+    pub number: Number,
+    pub fault: Fault,
+}
+
+impl fmt::Display for RefusedWord {
+    fn fmt<W: fmt::Write>(&self, f: &mut fmt::Formatter<W>) -> fmt::Result {
+        write!(f, "word {} refused{}", self.number, FaultNumber(self.fault))
+    }
+}
+
+// Whom a router waits for before it switches for d.
+#[derive(Clone, Copy)]
+pub struct Waits<'a> {
+    pub router: &'a Router,
+    pub d: NodeId,
+}
+
+impl fmt::Display for Waits<'_> {
+    fn fmt<W: fmt::Write>(&self, f: &mut fmt::Formatter<W>) -> fmt::Result {
+        let Waits { router, d } = *self;
+        let u = router.forwarder().node();
+        write!(f, "over {u} {d}: waits for")?;
+        for v in 0..router.forwarder().nodes() {
+            if router.waits_for(d, NodeId(v)) {
+                write!(f, " {v}")?;
+            }
+        }
+        Ok(())
+    }
+}
+
+// Where a packet is, or how it ended and the whole path from its start.
+#[derive(Clone, Copy)]
+pub struct Packet<'a> {
+    pub number: Number,
+    pub journey: &'a Journey,
+}
+
+impl fmt::Display for Packet<'_> {
+    fn fmt<W: fmt::Write>(&self, f: &mut fmt::Formatter<W>) -> fmt::Result {
+        let Packet { number, journey } = *self;
+        let path = Path(journey);
+        let cost = journey.spent();
+        match journey.state() {
+            State::UnderWay => write!(f, "packet {number} at {}", journey.at()),
+            State::Delivered => write!(f, "packet {number}:{path} arrived cost {cost}"),
+            State::Dropped(fault) => {
+                let fault = FaultNumber(fault);
+                write!(f, "packet {number}:{path} dropped{fault} cost {cost}")
+            }
+        }
+    }
+}
+
+// Where a packet has been, a space before each.
+#[derive(Clone, Copy)]
+struct Path<'a>(&'a Journey);
+
+impl fmt::Display for Path<'_> {
+    fn fmt<W: fmt::Write>(&self, f: &mut fmt::Formatter<W>) -> fmt::Result {
+        for node in self.0.path() {
+            write!(f, " {node}")?;
+        }
+        Ok(())
     }
 }
 
 // A line for each router.
-pub fn print_state(out: &mut String, network: &Network) -> Result<(), AllocError> {
-    let nodes = network.nodes();
-    for u in 0..nodes {
-        if let Some(router) = network.router(NodeId(u)) {
-            write!(out, "router {u}: down")?;
-            print_switching(out, router, nodes)?;
-            out.push_str("; table")?;
-            print_table(out, router, nodes)?;
-            out.push_str("\n")?;
+#[derive(Clone, Copy)]
+pub struct Routers<'a>(pub &'a Network);
+
+impl fmt::Display for Routers<'_> {
+    fn fmt<W: fmt::Write>(&self, f: &mut fmt::Formatter<W>) -> fmt::Result {
+        for u in 0..self.0.nodes() {
+            if let Some(router) = self.0.router(NodeId(u)) {
+                let table = Table(router.forwarder());
+                writeln!(f, "router {u}: down {}; table{table}", Failure(router))?;
+            }
         }
+        Ok(())
     }
-    Ok(())
 }
 
 // The failure that a router knows of, for which destinations it has switched, and whom it waits for.
-fn print_switching(out: &mut String, router: &Router, nodes: u8) -> Result<(), AllocError> {
-    let Some(link) = router.forwarder().failure() else {
-        return out.push_str(" none; switched none; waits none");
-    };
-    let (a, b) = (link.a.0, link.b.0);
-    write!(out, " {a}-{b}; switched")?;
-    print_switched(out, router, nodes)?;
-    out.push_str("; waits")?;
-    print_pending(out, router, nodes)
-}
+#[derive(Clone, Copy)]
+struct Failure<'a>(&'a Router);
 
-fn print_switched(out: &mut String, router: &Router, nodes: u8) -> Result<(), AllocError> {
-    let before = out.len();
-    for d in 0..nodes {
-        if router.forwarder().has_switched(NodeId(d)) {
-            write!(out, " {d}")?;
+impl fmt::Display for Failure<'_> {
+    fn fmt<W: fmt::Write>(&self, f: &mut fmt::Formatter<W>) -> fmt::Result {
+        let forwarder = self.0.forwarder();
+        match forwarder.failure() {
+            Some(link) => {
+                let (switched, pending) = (SwitchedFor(forwarder), Pending(self.0));
+                write!(f, "{link}; switched{switched}; waits{pending}")
+            }
+            None => f.write_str("none; switched none; waits none"),
         }
     }
-    none_since(out, before)
 }
 
-// `D<V` for each destination D for which it waits for the neighbour V.
-fn print_pending(out: &mut String, router: &Router, nodes: u8) -> Result<(), AllocError> {
-    let before = out.len();
-    for d in 0..nodes {
-        for v in 0..nodes {
-            if router.waits_for(NodeId(d), NodeId(v)) {
-                write!(out, " {d}<{v}")?;
+// The destinations that a router has switched for, a space before each.
+#[derive(Clone, Copy)]
+struct SwitchedFor<'a>(&'a Forwarder);
+
+impl fmt::Display for SwitchedFor<'_> {
+    fn fmt<W: fmt::Write>(&self, f: &mut fmt::Formatter<W>) -> fmt::Result {
+        let mut none = true;
+        for d in 0..self.0.nodes() {
+            if self.0.has_switched(NodeId(d)) {
+                none = false;
+                write!(f, " {d}")?;
             }
         }
-    }
-    none_since(out, before)
-}
-
-// `none` where nothing was printed since.
-fn none_since(out: &mut String, before: usize) -> Result<(), AllocError> {
-    if out.len() == before {
-        out.push_str(" none")?;
-    }
-    Ok(())
-}
-
-fn print_table(out: &mut String, router: &Router, nodes: u8) -> Result<(), AllocError> {
-    for d in 0..nodes {
-        match router.forwarder().next_hop(NodeId(d)) {
-            Some(NodeId(e)) => write!(out, " {e}")?,
-            None => out.push_str(" -")?,
+        if none {
+            f.write_str(" none")?;
         }
+        Ok(())
     }
-    Ok(())
+}
+
+// `D<V` for each destination D for which a router waits for the neighbour V, a space before each.
+#[derive(Clone, Copy)]
+struct Pending<'a>(&'a Router);
+
+impl fmt::Display for Pending<'_> {
+    fn fmt<W: fmt::Write>(&self, f: &mut fmt::Formatter<W>) -> fmt::Result {
+        let nodes = self.0.forwarder().nodes();
+        let mut none = true;
+        for d in 0..nodes {
+            for v in 0..nodes {
+                if self.0.waits_for(NodeId(d), NodeId(v)) {
+                    none = false;
+                    write!(f, " {d}<{v}")?;
+                }
+            }
+        }
+        if none {
+            f.write_str(" none")?;
+        }
+        Ok(())
+    }
+}
+
+// The next hop for each destination, a space before each.
+#[derive(Clone, Copy)]
+struct Table<'a>(&'a Forwarder);
+
+impl fmt::Display for Table<'_> {
+    fn fmt<W: fmt::Write>(&self, f: &mut fmt::Formatter<W>) -> fmt::Result {
+        for d in 0..self.0.nodes() {
+            match self.0.next_hop(NodeId(d)) {
+                Some(hop) => write!(f, " {hop}")?,
+                None => f.write_str(" -")?,
+            }
+        }
+        Ok(())
+    }
 }

@@ -1,60 +1,33 @@
 -- What is written of a packet reads back as what it was, and what is read was written so. Assumes nothing.
-use Rattle.std.proofs.Common.{◌≡◌, ℕ, zero, suc, ◌-◌, ◌≤◌, true, cond, ◌&&◌, eqb, ltb, List, [], ◌∷◌, ◌++◌, length, get_or, drop, Some, None, Ok, Err, sym, refl, ap, ◌∙◌, subst, inl, inr, arith}
+use Rattle.std.proofs.Common.{◌≡◌, ℕ, zero, suc, ◌-◌, ◌≤◌, List, [], ◌∷◌, ◌++◌, length, get_or, drop, None, Ok, sym, refl, ap, ◌∙◌, subst, arith, rules}
 use Rattle.std.specs.List.{flat_map}
-use Rattle.std.proofs.lemmas.Bool.{ltb-true, eqb-false, lt-ltb, ne_eqb, and_parts, and_from, cases_Bool, cond-true, cond-false}
 use Rattle.std.proofs.lemmas.Nat.{div-mul-add, mod-mul-add}
-use Rattle.links.specs.declared.fault.Fault.TheVariants.{UnknownKind, Truncated, NodeOutOfRange, SelfLink}
 use Rattle.links.proofs.RoundTrip.{Bytes, two_bytes}
 use Rattle.protocol.specs.Packet.{Segment, NodeSeg, LinkSeg, Packet}
 use Rattle.wire.specs.Pieces.{read_as, whole, judged, piece}
 use Rattle.wire.specs.Packets.{segment_bytes, packet_bytes, SegmentLawful, SegmentsLawful, most, PacketLawful, segment_at, segment_fault, segments_in, header_of, header_fault, with_header, packet_in}
 use Rattle.wire.specs.declared.origin.Origin.{Origin}
-use Rattle.wire.proofs.Fronts.{whole_there, whole_ok, two, three, five, some_there, two_kinds, judged_fine, judged_ok, piece_ok, ended_ok, read_as_ok}
-use Rattle.wire.proofs.Headers.{none_some, header_parts, header_fine, header_read}
+use Rattle.wire.proofs.Fronts.{whole_ok, five, judged_ok, piece_ok, ended_ok, read_as_ok}
+use Rattle.wire.proofs.Headers.{header_parts, header_fine, header_read}
 
 -- a segment without a fault is lawful, and the other way round
 
 fault_lawful : (n : ℕ) (s : Segment) → segment_fault n s ≡ None → SegmentLawful n s
-fault_lawful n (NodeSeg x) e = elim (cases_Bool (ltb x n)) [
-  | inl t ↦ ltb-true x n t
-  | inr t ↦ absurd (none_some NodeOutOfRange (sym (cond-false (ltb x n) None (Some NodeOutOfRange) t) ∙ e))
-]
-fault_lawful n (LinkSeg a b) e = elim (cases_Bool (ltb a n && ltb b n)) [
-  | inr t ↦ absurd (none_some NodeOutOfRange (sym (cond-false (ltb a n && ltb b n) _ (Some NodeOutOfRange) t) ∙ e))
-  | inl t ↦ apart (and_parts (ltb a n) (ltb b n) t) (sym (cond-true (ltb a n && ltb b n) _ (Some NodeOutOfRange) t) ∙ e)
-]
-  where
-    apart : (ltb a n ≡ true) × (ltb b n ≡ true) → cond (eqb a b) (Some SelfLink) None ≡ None → SegmentLawful n (LinkSeg a b)
-    apart h q = elim (cases_Bool (eqb a b)) [
-      | inl t ↦ absurd (none_some SelfLink (sym (cond-true (eqb a b) (Some SelfLink) None t) ∙ q))
-      | inr t ↦ (ltb-true a n h.0, ltb-true b n h.1, eqb-false a b t)
-    ]
+fault_lawful n (NodeSeg x) e = search rules
+fault_lawful n (LinkSeg a b) e = search rules
 
 lawful_fault : (n : ℕ) (s : Segment) → SegmentLawful n s → segment_fault n s ≡ None
-lawful_fault n (NodeSeg x) h = cond-true (ltb x n) None (Some NodeOutOfRange) (lt-ltb x n h)
-lawful_fault n (LinkSeg a b) h =
-    cond-true (ltb a n && ltb b n) _ (Some NodeOutOfRange) (and_from (ltb a n) (ltb b n) (lt-ltb a n h.0) (lt-ltb b n h.1)) ∙
-    cond-false (eqb a b) (Some SelfLink) None (ne_eqb a b h.2)
+lawful_fault n (NodeSeg x) h = search rules
+lawful_fault n (LinkSeg a b) h = search rules
 
 -- the bytes and the segment that they spell
 
 segment_at_lem : (s : Segment) (bs : List ℕ) → segment_at (segment_bytes s ++ bs) ≡ Ok (s, bs)
-segment_at_lem (NodeSeg x) bs =
-    let all = 0 ∷ (x ∷ bs) in
-    some_there all (Err Truncated) (whole 2 all (NodeSeg x)) (omega arith) ∙ whole_there 2 all (NodeSeg x) (omega arith)
-segment_at_lem (LinkSeg a b) bs =
-    let all = 1 ∷ (a ∷ (b ∷ bs)) in
-    some_there all (Err Truncated) (whole 3 all (LinkSeg a b)) (omega arith) ∙ whole_there 3 all (LinkSeg a b) (omega arith)
+segment_at_lem (NodeSeg x) bs = search rules
+segment_at_lem (LinkSeg a b) bs = search rules
 
 segment_spelled : (bs : List ℕ) (p : Segment × List ℕ) → segment_at bs ≡ Ok p → (segment_bytes p.0 ++ p.1) ≡ bs
-segment_spelled bs p e = elim (two_kinds bs 0 1 Truncated UnknownKind _ _ p e) [
-  | inl q ↦
-      let w = whole_ok 2 bs _ p q.1 in
-      ap (λ v. segment_bytes v.0 ++ v.1) w.1 ∙ (ap (λ k. k ∷ (get_or bs 1 0 ∷ drop 2 bs)) (sym q.0) ∙ two bs w.0)
-  | inr q ↦
-      let w = whole_ok 3 bs _ p q.1 in
-      ap (λ v. segment_bytes v.0 ++ v.1) w.1 ∙ (ap (λ k. k ∷ (get_or bs 1 0 ∷ (get_or bs 2 0 ∷ drop 3 bs))) (sym q.0) ∙ three bs w.0)
-]
+segment_spelled bs p e = search rules
 
 -- all segments
 
@@ -63,7 +36,7 @@ unfolding segments_in
 segments_read n m [] h = refl
 segments_read n m (s ∷ ss) h =
     let bs = flat_map segment_bytes (s ∷ ss) in
-    let j = judged_fine (segment_fault n) (segment_at bs) (s, flat_map segment_bytes ss) (segment_at_lem s (flat_map segment_bytes ss)) (lawful_fault n s h.0) in
+    let j : judged (segment_fault n) (segment_at bs) ≡ Ok (s, flat_map segment_bytes ss) = search (rules, segment_at_lem s (flat_map segment_bytes ss), lawful_fault n s h.0) in
     ap (λ r. piece (m - length bs) r (λ x rest. read_as (λ xs. x ∷ xs) (segments_in (length ss) n m rest))) j ∙ ap (read_as (λ xs. s ∷ xs)) (segments_read n m ss h.1)
 
 record Spelled (k n : ℕ) (bs : List ℕ) (ss : List Segment) : Type 0 where

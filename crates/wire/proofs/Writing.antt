@@ -1,7 +1,6 @@
 -- Bytes behind those there were. Assumes nothing.
-use Rattle.std.proofs.Common.{◌≡◌, ℕ, ◌≤◌, List, [], ◌∷◌, ◌++◌, map, length, take, Ok, Err, Result, refl, ap, ◌∙◌, append_assoc, arith}
+use Rattle.std.proofs.Common.{◌≡◌, ℕ, List, [], ◌∷◌, ◌++◌, map, Ok, Err, Result, refl, ap, ◌∙◌, append_assoc}
 use Rattle.std.specs.List.{flat_map}
-use Rattle.std.proofs.lemmas.List.{take-append-le, take_all}
 use Rattle.links.specs.declared.fault.Fault.{Fault}
 use Rattle.wire.specs.Pieces.{Begun}
 
@@ -15,9 +14,3 @@ begun_behind (Ok x) before mid after part more all p q h =
     h ∙ (ap (λ bs. bs ++ more) p ∙ (append_assoc before part more ∙ ap (λ bs. before ++ bs) q))
 begun_behind (Err f) before mid after part more all p q h =
     (h.0, (part ++ h.1.0, h.1.1 ∙ (ap (λ bs. bs ++ h.1.0) p ∙ append_assoc before part h.1.0)))
-
--- and taken off again
-pub taken_back : (before mid after more : List ℕ) (k : ℕ) → mid ≡ before ++ more → k ≡ length before → after ≡ take k mid → after ≡ before
-taken_back before mid after more k p l t =
-    let h : k ≤ length before = omega arith in
-    t ∙ (ap (take k) p ∙ (take-append-le k before more h ∙ take_all k before (omega arith)))

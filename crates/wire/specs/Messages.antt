@@ -1,15 +1,12 @@
 -- The bytes of a message between routers, and how they are read: all its fields, the end. Assumes nothing.
-use Rattle.std.specs.Prelude.{ℕ, ◌-◌, ◌<◌, cond, ◌&&◌, List, [], ◌∷◌, length, Some, None, Err, Option, Result, ◌==◌, nat_le, nat_lt, slice_index}
+use Rattle.std.specs.Prelude.{ℕ, ◌-◌, ◌<◌, cond, ◌&&◌, List, [], ◌∷◌, length, Some, None, Err, Option, Result, ◌==◌, nat_lt, slice_index}
+use Rattle.links.specs.Link.{lower_first}
 use Rattle.links.specs.declared.fault.Fault.{Fault}
 use Rattle.links.specs.declared.fault.Fault.TheVariants.{UnknownKind, Truncated, NodeOutOfRange, SelfLink, HigherFirst}
 use Rattle.links.specs.declared.wire.ReadError.{ReadError}
 use Rattle.protocol.specs.Router.{Message, LinkDown, Switched}
 use Rattle.theory.specs.Network.{LinkId}
 use Rattle.wire.specs.Pieces.{Front, whole, judged, piece, ended}
-
--- the same link, by its lower node first
-abbrev pub lower_first : LinkId → LinkId
-lower_first l = cond (nat_le l.a l.b) l (record { a = l.b; b = l.a })
 
 abbrev pub ordered : Message → Message
 ordered (LinkDown l) = LinkDown (lower_first l)

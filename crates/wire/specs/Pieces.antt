@@ -13,6 +13,10 @@ read_as f r = result_map_both f (λ e. e) r
 abbrev pub refused : {A : Type 0} → Fault → ℕ → Result A ReadError
 refused f i = Err (record { fault = f; at = i })
 
+-- a fault of the piece that begins at the byte i
+abbrev pub placed : {A : Type 0} → ℕ → Result A Fault → Result A ReadError
+placed i r = result_map_both (λ x. x) (λ f. record { fault = f; at = i }) r
+
 -- what stands in front, and the bytes after it, or why it is refused
 abbrev pub Front : Type 0 → Type 0
 Front A = Result (A × List ℕ) Fault

@@ -1,11 +1,21 @@
 ghost use Rattle.std.specs.Prelude.{◌≡◌};
 ghost use Rattle.wire.specs.Kinds.{kind_in};
 
+use crate::unread::Unread;
 use links::fault::Fault;
 use links::wire::ReadError;
 
+// The first byte of each kind.
+const LINKS: u8 = 1;
+
+pub(crate) const PACKET: u8 = 2;
+
+pub(crate) const LINK_DOWN: u8 = 3;
+
+pub(crate) const SWITCHED: u8 = 4;
+
 // What a frame holds.
-#[derive(Clone, Copy)]
+#[derive(Clone, Copy, PartialEq, Eq, Debug)]
 pub enum Kind {
     // for `Topology::read`
     Links,
@@ -20,18 +30,13 @@ pub enum Kind {
 pub fn kind_of(bytes: &[u8]) -> Result<Kind, ReadError>
     ensures { result ≡ kind_in bytes.now }
 {
-    match bytes {
-        [] => Err(ReadError {
-            fault: Fault::Truncated,
-            at: 0,
-        }),
-        [1, ..] => Ok(Kind::Links),
-        [2, ..] => Ok(Kind::Packet),
-        [3, ..] => Ok(Kind::LinkDown),
-        [4, ..] => Ok(Kind::Switched),
-        _ => Err(ReadError {
-            fault: Fault::UnknownKind,
-            at: 0,
-        }),
-    }
+    let kind = match bytes {
+        [] => Err(Fault::Truncated),
+        [LINKS, ..] => Ok(Kind::Links),
+        [PACKET, ..] => Ok(Kind::Packet),
+        [LINK_DOWN, ..] => Ok(Kind::LinkDown),
+        [SWITCHED, ..] => Ok(Kind::Switched),
+        _ => Err(Fault::UnknownKind),
+    };
+    Unread::new(bytes).piece(kind)
 }

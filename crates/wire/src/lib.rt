@@ -7,3 +7,4 @@ pub mod origin;
 pub mod packet;
 mod pieces;
 mod segment;
+mod unread;

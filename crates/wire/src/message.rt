@@ -4,15 +4,18 @@ ghost use Rattle.std.specs.Prelude.{◌≡◌, ℕ, ◌≤◌, length, IfOk, Ok}
 ghost use Rattle.std.specs.Result.{result_map_both};
 ghost use Rattle.links.specs.Link.{ends};
 ghost use Rattle.messages.specs.Messages.{message_of};
-ghost use Rattle.wire.specs.Pieces.{read_as, Put};
-ghost use Rattle.wire.specs.Messages.{MessageLawful, lower_first, ordered, message_bytes, message_at, link_fault, message_fault, message_in};
+ghost use Rattle.wire.specs.Pieces.{read_as, unless, judged, Put};
+ghost use Rattle.wire.specs.Messages.{MessageLawful, ordered, message_bytes, message_at, link_fault, message_fault, message_in};
 
-use crate::pieces::{end, put};
+use crate::kind::{LINK_DOWN, SWITCHED};
+use crate::pieces::put;
+use crate::unread::Unread;
 use links::fault::Fault;
 use links::link::LinkId;
 use links::node::NodeId;
 use links::wire::ReadError;
-use messages::message::Message;
+use messages::message::{Message, Switched};
+use std::cmp::Ordering;
 
 // The message in front, and the bytes after it.
 fn front(bytes: &[u8]) -> Result<(Message, &[u8]), Fault>
@@ -20,16 +23,16 @@ fn front(bytes: &[u8]) -> Result<(Message, &[u8]), Fault>
     ensures shorter { IfOk result (λ p. length p.1.now ≤ length bytes.now) }
 {
     match bytes {
-        [3, a, b, rest @ ..] => Ok((Message::LinkDown(link(*a, *b)), rest)),
-        [4, from, destination, a, b, rest @ ..] => {
-            let message = Message::Switched {
+        [LINK_DOWN, a, b, rest @ ..] => Ok((Message::LinkDown(link(*a, *b)), rest)),
+        [SWITCHED, from, destination, a, b, rest @ ..] => {
+            let switched = Switched {
                 from: NodeId(*from),
                 destination: NodeId(*destination),
                 link: link(*a, *b),
             };
-            Ok((message, rest))
+            Ok((Message::Switched(switched), rest))
         }
-        [] | [3, ..] | [4, ..] => Err(Fault::Truncated),
+        [] | [LINK_DOWN, ..] | [SWITCHED, ..] => Err(Fault::Truncated),
         _ => Err(Fault::UnknownKind),
     }
 }
@@ -43,53 +46,40 @@ fn link(a: u8, b: u8) -> LinkId
     }
 }
 
-// Why a link is refused, if so.
-fn link_fault(nodes: u8, link: LinkId) -> Option<Fault>
-    ensures { result ≡ link_fault nodes (ends link) }
+// Its nodes are below the number of nodes, the lower one first.
+fn check_link(nodes: u8, link: LinkId) -> Result<(), Fault>
+    ensures { result ≡ unless (link_fault nodes (ends link)) tt }
 {
-    if link.a.0 >= nodes || link.b.0 >= nodes {
-        Some(Fault::NodeOutOfRange)
-    } else if link.a.0 == link.b.0 {
-        Some(Fault::SelfLink)
-    } else if link.b.0 < link.a.0 {
-        Some(Fault::HigherFirst)
-    } else {
-        None
+    link.a.check(nodes)?;
+    link.b.check(nodes)?;
+    match link.a.cmp(&link.b) {
+        Ordering::Less => Ok(()),
+        Ordering::Equal => Err(Fault::SelfLink),
+        Ordering::Greater => Err(Fault::HigherFirst),
     }
 }
 
-// Why a message is refused, if so.
-fn message_fault(nodes: u8, message: Message) -> Option<Fault>
-    ensures { result ≡ message_fault nodes (message_of message) }
+fn check(nodes: u8, message: Message) -> Result<(), Fault>
+    ensures { result ≡ unless (message_fault nodes (message_of message)) tt }
 {
     match message {
-        Message::LinkDown(link) => link_fault(nodes, link),
-        Message::Switched {
-            from,
-            destination,
-            link,
-        } => {
-            if from.0 >= nodes || destination.0 >= nodes {
-                Some(Fault::NodeOutOfRange)
-            } else {
-                link_fault(nodes, link)
-            }
+        Message::LinkDown(link) => check_link(nodes, link),
+        Message::Switched(switched) => {
+            switched.from.check(nodes)?;
+            switched.destination.check(nodes)?;
+            check_link(nodes, switched.link)
         }
     }
 }
 
-fn read(bytes: &[u8], nodes: u8) -> Result<Message, ReadError>
-    ensures { read_as message_of result ≡ message_in nodes bytes.now }
+// The message in front, if it has no fault. The steps are those of `next_segment`; a trait for the two would be longer.
+fn next_message(bytes: &[u8], nodes: u8) -> Result<(Message, &[u8]), Fault>
+    ensures value { result_map_both (λ p. (message_of p.0, p.1.now)) (λ f. f) result ≡ judged (message_fault nodes) (message_at bytes.now) }
+    ensures shorter { IfOk result (λ p. length p.1.now ≤ length bytes.now) }
 {
-    let (message, rest) = match front(bytes) {
-        Ok(found) => found,
-        Err(fault) => return Err(ReadError { fault, at: 0 }),
-    };
-    if let Some(fault) = message_fault(nodes, message) {
-        return Err(ReadError { fault, at: 0 });
-    }
-    end(rest, bytes.len() - rest.len())?;
-    Ok(message)
+    let (message, rest) = front(bytes)?;
+    check(nodes, message)?;
+    Ok((message, rest))
 }
 
 // Reads a message in a network of so many nodes. No two lists of bytes read as the same one.
@@ -98,20 +88,10 @@ pub fn read_message(bytes: &[u8], nodes: u8) -> Result<Message, ReadError>
     ensures lawful { IfOk result (λ m. MessageLawful nodes (message_of m)) }
     ensures spelled { IfOk result (λ m. message_bytes (message_of m) ≡ bytes.now) }
 {
-    read(bytes, nodes)
-}
-
-// The same link, by its lower node first.
-fn lower_first(link: LinkId) -> LinkId
-    ensures { ends result ≡ lower_first (ends link) }
-{
-    if link.a.0 <= link.b.0 {
-        return link;
-    }
-    LinkId {
-        a: link.b,
-        b: link.a,
-    }
+    let unread = Unread::new(bytes);
+    let (message, rest) = unread.piece(next_message(bytes, nodes))?;
+    unread.after(rest).end()?;
+    Ok(message)
 }
 
 // Puts a message behind what is written already, its link's lower node first. It reads back as the same message, with
@@ -121,24 +101,23 @@ pub fn write_message(message: Message, out: &mut Vec<u8>) -> Result<(), Fault>
     ensures back { (n : ℕ) → MessageLawful n (message_of message) → message_in n (message_bytes (message_of message)) ≡ Ok (message_of message) }
     ensures turned { (n : ℕ) → MessageLawful n (ordered (message_of message)) → message_in n (message_bytes (message_of message)) ≡ Ok (ordered (message_of message)) }
 {
-    write(message, out)
-}
-
-fn write(message: Message, out: &mut Vec<u8>) -> Result<(), Fault>
-    ensures { Put result out.old.items (message_bytes (message_of message)) out.new.items }
-{
     match message {
         Message::LinkDown(link) => {
-            let link = lower_first(link);
-            put(&[3, link.a.0, link.b.0], out)
+            let link = link.lower_first();
+            put(&[LINK_DOWN, link.a.0, link.b.0], out)
         }
-        Message::Switched {
-            from,
-            destination,
-            link,
-        } => {
-            let link = lower_first(link);
-            put(&[4, from.0, destination.0, link.a.0, link.b.0], out)
+        Message::Switched(switched) => {
+            let link = switched.link.lower_first();
+            put(
+                &[
+                    SWITCHED,
+                    switched.from.0,
+                    switched.destination.0,
+                    link.a.0,
+                    link.b.0,
+                ],
+                out,
+            )
         }
     }
 }

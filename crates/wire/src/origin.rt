@@ -1,5 +1,5 @@
 // Whom a packet comes from: a router's own sender, or a neighbour.
-#[derive(Clone, Copy)]
+#[derive(Clone, Copy, PartialEq, Eq, Debug)]
 pub enum Origin {
     Sender,
     Neighbour,

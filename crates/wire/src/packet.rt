@@ -2,80 +2,50 @@
 // the segments.
 ghost use Rattle.std.specs.Prelude.{◌≡◌, ℕ, ◌+◌, ◌≤◌, ◌++◌, length, IfOk, Ok};
 ghost use Rattle.packets.specs.Packets.{packet_of, with_segments};
-ghost use Rattle.wire.specs.Pieces.{read_as, Put, Begun};
+ghost use Rattle.wire.specs.Pieces.{read_as, unless, Put, Begun};
 ghost use Rattle.wire.specs.Packets.{PacketLawful, packet_bytes, segments_in, header_fault, packet_in};
 ghost use Rattle.wire.specs.declared.origin.Origin.{Origin as Source};
 
+use crate::kind::PACKET;
 use crate::origin::Origin;
-use crate::pieces::{end, put};
+use crate::pieces::put;
 use crate::segment::{next_segment, write_segments};
+use crate::unread::Unread;
 use links::fault::Fault;
 use links::node::NodeId;
 use links::wire::{ReadError, number};
 use packets::packet::Packet;
 
-// Why a header is refused, if so.
-fn header_fault(origin: Origin, nodes: u8, kind: u8, destination: u8, count: u8) -> Option<Fault>
-    ensures { (h : ℕ) → result ≡ header_fault origin nodes (record { kind = kind; dest = destination; hop_limit = h; count = count }) }
+// The rules for a header.
+fn check(origin: Origin, nodes: u8, kind: u8, destination: NodeId, count: u8) -> Result<(), Fault>
+    ensures { (h : ℕ) → result ≡ unless (header_fault origin nodes (record { kind = kind; dest = destination.0; hop_limit = h; count = count })) tt }
 {
-    if kind != 2 {
-        return Some(Fault::UnknownKind);
+    if kind != PACKET {
+        return Err(Fault::UnknownKind);
     }
-    if destination >= nodes {
-        return Some(Fault::NodeOutOfRange);
-    }
+    destination.check(nodes)?;
     match origin {
-        Origin::Sender if count > 3 => Some(Fault::TooManySenderSegments),
-        Origin::Neighbour if count > 5 => Some(Fault::TooManySegments),
-        _ => None,
+        Origin::Sender if count > 3 => Err(Fault::TooManySenderSegments),
+        Origin::Neighbour if count > 5 => Err(Fault::TooManySegments),
+        _ => Ok(()),
     }
 }
 
-// The segments that are not yet read, put behind those of the packet: so many are left.
-fn read_segments(
-    bytes: &[u8],
-    size: usize,
-    nodes: u8,
-    left: u8,
-    packet: Packet,
-) -> Result<Packet, ReadError>
-    requires part { length bytes.now ≤ size }
-    requires room { length (packet_of packet).segments + left ≤ 5 }
-    ensures { read_as packet_of result ≡ read_as (λ ss. with_segments (packet_of packet) ((packet_of packet).segments ++ ss)) (segments_in left nodes size bytes.now) }
+// The segments that are not yet read, put behind those of the packet: so many are left. They are handed on as the rest of the
+// bytes.
+fn read_segments(unread: Unread, nodes: u8, left: u8, packet: Packet) -> Result<Packet, ReadError>
+    requires { length (packet_of packet).segments + left ≤ 5 }
+    ensures { read_as packet_of result ≡ read_as (λ ss. with_segments (packet_of packet) ((packet_of packet).segments ++ ss)) (segments_in left nodes unread.entry.size unread.entry.bytes.now) }
 {
-    let at = size - bytes.len();
     if left == 0 {
-        end(bytes, at)?;
+        unread.end()?;
         return Ok(packet);
     }
-    let (segment, rest) = match next_segment(bytes, nodes) {
-        Ok(found) => found,
-        Err(fault) => return Err(ReadError { fault, at }),
-    };
+    let (segment, rest) = unread.piece(next_segment(unread.bytes, nodes))?;
     let Some(longer) = packet.with_last(segment) else {
-        return Err(ReadError {
-            fault: Fault::TooManySegments,
-            at,
-        });
+        return unread.piece(Err(Fault::TooManySegments));
     };
-    read_segments(rest, size, nodes, left - 1, longer)
-}
-
-fn read(bytes: &[u8], nodes: u8, origin: Origin) -> Result<Packet, ReadError>
-    ensures { read_as packet_of result ≡ packet_in origin nodes bytes.now }
-{
-    let [kind, destination, high, low, count, rest @ ..] = bytes else {
-        return Err(ReadError {
-            fault: Fault::Truncated,
-            at: 0,
-        });
-    };
-    if let Some(fault) = header_fault(origin, nodes, *kind, *destination, *count) {
-        return Err(ReadError { fault, at: 0 });
-    }
-    let hop_limit = number(*high, *low);
-    let packet = Packet::without_segments(NodeId(*destination), hop_limit);
-    read_segments(rest, bytes.len(), nodes, *count, packet)
+    read_segments(unread.after(rest), nodes, left - 1, longer)
 }
 
 // Reads a packet in a network of so many nodes. No two lists of bytes read as the same one.
@@ -84,22 +54,23 @@ pub fn read_packet(bytes: &[u8], nodes: u8, origin: Origin) -> Result<Packet, Re
     ensures lawful { IfOk result (λ p. PacketLawful origin nodes (packet_of p)) }
     ensures spelled { IfOk result (λ p. packet_bytes (packet_of p) ≡ bytes.now) }
 {
-    read(bytes, nodes, origin)
+    let unread = Unread::new(bytes);
+    let [kind, destination, high, low, count, rest @ ..] = bytes else {
+        return unread.piece(Err(Fault::Truncated));
+    };
+    let destination = NodeId(*destination);
+    unread.piece(check(origin, nodes, *kind, destination, *count))?;
+    let packet = Packet::without_segments(destination, number(*high, *low));
+    read_segments(unread.after(rest), nodes, *count, packet)
 }
 
 // Where memory is short, some bytes may stand there.
 fn begin(packet: &Packet, out: &mut Vec<u8>) -> Result<(), Fault>
     ensures { Begun result out.old.items (packet_bytes (packet_of packet.now)) out.new.items }
 {
-    let hop_limit = packet.hop_limit();
-    let header = [
-        2,
-        packet.destination().0,
-        (hop_limit / 256) as u8,
-        (hop_limit % 256) as u8,
-        packet.count(),
-    ];
-    put(&header, out)?;
+    let [high, low] = packet.hop_limit().to_be_bytes();
+    let destination = packet.destination().0;
+    put(&[PACKET, destination, high, low, packet.count()], out)?;
     write_segments(packet.segments(), out)
 }
 
@@ -109,11 +80,9 @@ pub fn write_packet(packet: &Packet, out: &mut Vec<u8>) -> Result<(), Fault>
     ensures back { (origin : Source) (n : ℕ) → PacketLawful origin n (packet_of packet.now) → packet_in origin n (packet_bytes (packet_of packet.now)) ≡ Ok (packet_of packet.now) }
 {
     let before = out.len();
-    match begin(packet, out) {
-        Ok(()) => Ok(()),
-        Err(fault) => {
-            out.truncate(before);
-            Err(fault)
-        }
+    let written = begin(packet, out);
+    if written.is_err() {
+        out.truncate(before);
     }
+    written
 }

@@ -3,7 +3,7 @@ ghost use Rattle.std.specs.Prelude.{◌≡◌, ◌≤◌, length, IfOk};
 ghost use Rattle.std.specs.List.{flat_map};
 ghost use Rattle.std.specs.Result.{result_map_both};
 ghost use Rattle.packets.specs.Segments.{segment_of};
-ghost use Rattle.wire.specs.Pieces.{judged, Put, Begun};
+ghost use Rattle.wire.specs.Pieces.{unless, judged, Put, Begun};
 ghost use Rattle.wire.specs.Packets.{segment_bytes, segment_at, segment_fault};
 
 use crate::pieces::put;
@@ -11,45 +11,43 @@ use links::fault::Fault;
 use links::node::NodeId;
 use packets::segment::Segment;
 
+// The first byte of each.
+const NODE: u8 = 0;
+
+const LINK: u8 = 1;
+
 // The segment in front, and the bytes after it.
 fn front(bytes: &[u8]) -> Result<(Segment, &[u8]), Fault>
     ensures value { result_map_both (λ p. (segment_of p.0, p.1.now)) (λ f. f) result ≡ segment_at bytes.now }
     ensures shorter { IfOk result (λ p. length p.1.now ≤ length bytes.now) }
 {
     match bytes {
-        [0, node, rest @ ..] => Ok((Segment::Node(NodeId(*node)), rest)),
-        [1, from, to, rest @ ..] => {
+        [NODE, node, rest @ ..] => Ok((Segment::Node(NodeId(*node)), rest)),
+        [LINK, from, to, rest @ ..] => {
             let segment = Segment::Link {
                 from: NodeId(*from),
                 to: NodeId(*to),
             };
             Ok((segment, rest))
         }
-        [] | [0, ..] | [1, ..] => Err(Fault::Truncated),
+        [] | [NODE, ..] | [LINK, ..] => Err(Fault::Truncated),
         _ => Err(Fault::UnknownKind),
     }
 }
 
-// Why a segment is refused, if so.
-fn segment_fault(nodes: u8, segment: Segment) -> Option<Fault>
-    ensures { result ≡ segment_fault nodes (segment_of segment) }
+// Its nodes are below the number of nodes, and a link has two.
+fn check(nodes: u8, segment: Segment) -> Result<(), Fault>
+    ensures { result ≡ unless (segment_fault nodes (segment_of segment)) tt }
 {
     match segment {
-        Segment::Node(node) => {
-            if node.0 >= nodes {
-                Some(Fault::NodeOutOfRange)
-            } else {
-                None
-            }
-        }
+        Segment::Node(node) => node.check(nodes),
         Segment::Link { from, to } => {
-            if from.0 >= nodes || to.0 >= nodes {
-                Some(Fault::NodeOutOfRange)
-            } else if from.0 == to.0 {
-                Some(Fault::SelfLink)
-            } else {
-                None
+            from.check(nodes)?;
+            to.check(nodes)?;
+            if from == to {
+                return Err(Fault::SelfLink);
             }
+            Ok(())
         }
     }
 }
@@ -60,18 +58,16 @@ pub(crate) fn next_segment(bytes: &[u8], nodes: u8) -> Result<(Segment, &[u8]), 
     ensures shorter { IfOk result (λ p. length p.1.now ≤ length bytes.now) }
 {
     let (segment, rest) = front(bytes)?;
-    match segment_fault(nodes, segment) {
-        Some(fault) => Err(fault),
-        None => Ok((segment, rest)),
-    }
+    check(nodes, segment)?;
+    Ok((segment, rest))
 }
 
 fn write_segment(segment: Segment, out: &mut Vec<u8>) -> Result<(), Fault>
     ensures { Put result out.old.items (segment_bytes (segment_of segment)) out.new.items }
 {
     match segment {
-        Segment::Node(node) => put(&[0, node.0], out),
-        Segment::Link { from, to } => put(&[1, from.0, to.0], out),
+        Segment::Node(node) => put(&[NODE, node.0], out),
+        Segment::Link { from, to } => put(&[LINK, from.0, to.0], out),
     }
 }
 

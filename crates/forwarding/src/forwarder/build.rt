@@ -6,7 +6,7 @@ ghost use Rattle.forwarding.specs.Model.{model};
 ghost use Rattle.forwarding.specs.Started.{Started};
 
 use super::Forwarder;
-use crate::tables::{none_switched, own_hops, own_repairs};
+use crate::tables::{none_switched, own_repairs};
 use links::fault::Fault;
 use links::node::NodeId;
 use links::topology::Topology;
@@ -15,12 +15,10 @@ use routes::routes::Routes;
 impl Forwarder {
     // The router at a node of a topology, which knows of no failure.
     pub fn new(topology: &Topology, me: NodeId) -> Result<Forwarder, Fault>
-        ensures { Started (network topology.now) me.0 result }
+        ensures { Started model (network topology.now) me.0 result }
     {
         let routes = Routes::of(topology);
-        if me.0 >= routes.nodes() {
-            return Err(Fault::NodeOutOfRange);
-        }
+        me.check(routes.nodes())?;
         Ok(Forwarder::start(routes, me))
     }
 
@@ -29,13 +27,11 @@ impl Forwarder {
         ensures { model result ≡ idle (routes_network routes) [] me.0 }
     {
         let repairs = own_repairs(&routes, me);
-        let new_hops = own_hops(&routes, me);
         Forwarder {
             me,
             routes,
             repairs,
             failure: None,
-            new_hops,
             switched: none_switched(),
         }
     }

@@ -1,49 +1,41 @@
 ghost use Rattle.std.specs.Prelude.{◌≡◌};
-ghost use Rattle.std.specs.Option.{option_map};
 ghost use Rattle.protocol.specs.Packet.{forward, go_over, over_link};
-ghost use Rattle.packets.specs.Packets.{packet_of, repaired};
+ghost use Rattle.packets.specs.Packets.{packet_of};
 ghost use Rattle.forwarding.specs.Model.{model};
 ghost use Rattle.forwarding.specs.Decisions.{decision_of};
 ghost use Rattle.forwarding.specs.Rounds.{IsRound, GoesTowards};
 
 use super::Forwarder;
-use crate::outcome::{Outcome, Round};
+use crate::outcome::Outcome;
 use links::fault::Fault;
 use links::node::NodeId;
 use packets::packet::Packet;
 use packets::segment::Segment;
-use repairs::repair::Repair;
+use std::ops::ControlFlow;
 
 impl Forwarder {
     // What becomes of a packet that is here. It reads only the router's own tables, and what it knows to be down.
+    // Round by round: there is an end, since each repair that is put leaves less room for another.
     pub fn forward(&self, packet: Packet) -> Outcome
         ensures { decision_of result ≡ forward (model self.now) (packet_of packet) }
     {
-        self.rounds(packet)
-    }
-
-    // Round by round. There is an end, since each repair that is put leaves less room for another.
-    fn rounds(&self, packet: Packet) -> Outcome
-        ensures { decision_of result ≡ forward (model self.now) (packet_of packet) }
-    {
         match self.round(packet) {
-            Round::Done(outcome) => outcome,
-            Round::Repaired(packet) => self.rounds(packet),
+            ControlFlow::Break(outcome) => outcome,
+            ControlFlow::Continue(packet) => self.forward(packet),
         }
     }
 
-    fn round(&self, packet: Packet) -> Round
+    // One round: the packet goes on once more where a repair was put.
+    fn round(&self, packet: Packet) -> ControlFlow<Outcome, Packet>
         ensures { IsRound (model self.now) (packet_of packet) result }
     {
         let packet = packet.stripped(self.me);
         match packet.first() {
-            Some(Segment::Link { from, to }) => Round::Done(self.over_link(
-                packet.without_first(),
-                from,
-                to,
-            )),
+            Some(Segment::Link { from, to }) => {
+                ControlFlow::Break(self.over_link(packet.without_first(), from, to))
+            }
             Some(Segment::Node(aim)) => self.towards(packet, aim),
-            None if packet.destination().0 == self.me.0 => Round::Done(Outcome::Delivered),
+            None if packet.destination() == self.me => ControlFlow::Break(Outcome::Delivered),
             None => self.towards(packet, packet.destination()),
         }
     }
@@ -55,43 +47,37 @@ impl Forwarder {
         let Some(packet) = packet.one_hop_less() else {
             return Outcome::Dropped(Fault::NoHopsLeft);
         };
-        if from.0 != self.me.0 {
+        if from != self.me {
             return Outcome::Dropped(Fault::SegmentElsewhere);
         }
-        let Some(_) = self.routes.link_cost(from, to) else {
+        if self.routes.link_cost(from, to).is_none() {
             return Outcome::Dropped(Fault::SegmentElsewhere);
-        };
+        }
         if self.knows_down(from, to) {
             return Outcome::Dropped(Fault::SegmentLinkDown);
         }
         Outcome::Sent { to, packet }
     }
 
-    // To the next hop for the aim, or by a repair where that lies over the link that is down.
-    fn towards(&self, packet: Packet, aim: NodeId) -> Round
+    // To the next hop for the aim, or by a repair where that lies over the link that is down. The segments that the packet
+    // has, the aim's own too, stay behind those of the repair.
+    fn towards(&self, packet: Packet, aim: NodeId) -> ControlFlow<Outcome, Packet>
         ensures { GoesTowards (model self.now) (packet_of packet) aim.0 result }
     {
         let Some(hop) = self.next_hop(aim) else {
-            return Round::Done(Outcome::Dropped(Fault::NoNextHop));
+            return ControlFlow::Break(Outcome::Dropped(Fault::NoNextHop));
         };
         if !self.knows_down(self.me, hop) {
-            return Round::Done(over(packet, hop));
+            return ControlFlow::Break(over(packet, hop));
         }
         let Some(repair) = self.repair(hop, aim) else {
-            return Round::Done(Outcome::Dropped(Fault::NoRepair));
+            return ControlFlow::Break(Outcome::Dropped(Fault::NoRepair));
         };
-        match put_repair(packet, repair) {
-            Some(packet) => Round::Repaired(packet),
-            None => Round::Done(Outcome::Dropped(Fault::TooManySegments)),
+        match packet.with_repair(repair.p, repair.q) {
+            Some(packet) => ControlFlow::Continue(packet),
+            None => ControlFlow::Break(Outcome::Dropped(Fault::TooManySegments)),
         }
     }
-}
-
-// The segments that the packet has, the aim's own too, stay behind those of the repair.
-fn put_repair(packet: Packet, repair: Repair) -> Option<Packet>
-    ensures { option_map packet_of result ≡ repaired (packet_of packet) repair.p.0 repair.q.0 }
-{
-    packet.with_repair(repair.p, repair.q)
 }
 
 // Over a link that is up.

@@ -1,4 +1,5 @@
-ghost use Rattle.std.specs.Prelude.{◌≡◌, ◌<◌, ◌≤◌, true, Some};
+ghost use Rattle.std.specs.Prelude.{◌≡◌, true, Some};
+ghost use Rattle.links.specs.Links.{IsNodeCount};
 ghost use Rattle.theory.specs.NextHop.{next_hop, uses};
 ghost use Rattle.links.specs.Link.{ends};
 ghost use Rattle.protocol.specs.Router.{entry};
@@ -6,13 +7,13 @@ ghost use Rattle.protocol.specs.Packet.{known_down};
 ghost use Rattle.routes.specs.Costs.{link_cost};
 ghost use Rattle.routes.specs.NextHops.{hop_of};
 ghost use Rattle.forwarding.specs.Model.{failure_of, model};
-ghost use Rattle.forwarding.specs.Tables.{found};
 ghost use Rattle.forwarding.specs.Rounds.{RepairFound};
 
 use super::Forwarder;
 use links::link::LinkId;
 use links::node::NodeId;
 use repairs::repair::{Entry, Repair};
+use routes::matrix::cell;
 
 impl Forwarder {
     // Where it is.
@@ -25,7 +26,7 @@ impl Forwarder {
     // How many nodes its network has: 1 to 64.
     pub fn nodes(&self) -> u8
         ensures value { result ≡ (model self.now).links.n }
-        ensures bounds { (0 < result) × (result ≤ 64) }
+        ensures bounds { IsNodeCount result }
     {
         self.routes.nodes()
     }
@@ -55,46 +56,34 @@ impl Forwarder {
     pub fn failure(&self) -> Option<LinkId>
         ensures { failure_of result ≡ (model self.now).failure }
     {
-        self.failure
+        self.failure.as_ref().map(|known| known.link)
     }
 
     // Has it switched for a destination?
     pub fn has_switched(&self, destination: NodeId) -> bool
         ensures { result ≡ (model self.now).switched destination.0 }
     {
-        if destination.0 >= 64 {
-            return false;
-        }
-        self.switched[destination.0 as usize]
+        destination.is_below(64) && self.switched[destination.0 as usize]
     }
 
     // The next hop that it uses for an aim.
     pub fn next_hop(&self, aim: NodeId) -> Option<NodeId>
         ensures { hop_of result ≡ entry (model self.now) aim.0 }
     {
-        self.hop_for(aim)
-    }
-
-    fn hop_for(&self, aim: NodeId) -> Option<NodeId>
-        ensures { hop_of result ≡ entry (model self.now) aim.0 }
-    {
-        if aim.0 >= self.nodes() {
+        if !aim.is_below(self.nodes()) {
             return None;
         }
-        if self.switched[aim.0 as usize] {
-            return self.new_hops[aim.0 as usize];
+        match &self.failure {
+            Some(known) if self.switched[aim.0 as usize] => known.hops[aim.0 as usize],
+            _ => self.routes.next_hop(aim, self.me),
         }
-        self.routes.next_hop(aim, self.me)
     }
 
     // Does it know the link between a and b to be down?
     pub fn knows_down(&self, a: NodeId, b: NodeId) -> bool
         ensures { result ≡ known_down (model self.now).failure a.0 b.0 }
     {
-        match self.failure {
-            Some(link) => link.joins(a, b),
-            None => false,
-        }
+        self.failure().is_some_and(|link| link.joins(a, b))
     }
 
     // The repair for an aim whose next hop lies over the failed link.
@@ -103,15 +92,10 @@ impl Forwarder {
         requires down { true ≡ known_down (model self.now).failure (model self.now).me hop.0 }
         ensures { RepairFound (model self.now) aim.0 result }
     {
-        repair_in(self.repairs[hop.0 as usize * 64 + aim.0 as usize])
-    }
-}
-
-fn repair_in(entry: Entry) -> Option<Repair>
-    ensures { result ≡ found entry }
-{
-    match entry {
-        Entry::Via(repair) => Some(repair),
-        Entry::Apart | Entry::Unused => None,
+        let entry = self.repairs[cell(hop, aim)];
+        match entry {
+            Entry::Via(repair) => Some(repair),
+            Entry::Apart | Entry::Unused => None,
+        }
     }
 }

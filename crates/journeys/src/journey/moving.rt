@@ -8,31 +8,26 @@ ghost use Rattle.switchover.specs.Model.{model};
 ghost use Rattle.journeys.specs.Journeys.{flight_of, Begun, Moved};
 
 use super::{Journey, State};
+use crate::order::Order;
 use forwarding::outcome::Outcome;
 use links::fault::Fault;
 use links::node::NodeId;
 use packets::packet::Packet;
-use packets::sender::SenderSegments;
 use std::alloc::Global;
 use switchover::router::Router;
 
 impl Journey {
     // A new packet that waits at its start.
-    pub fn new(
-        heap: Global,
-        at: NodeId,
-        destination: NodeId,
-        segments: SenderSegments,
-    ) -> Result<Journey, Fault>
-        ensures { Begun at.0 (fresh destination.0 (sender_segments segments)) result }
+    pub fn new(heap: Global, order: Order) -> Result<Journey, Fault>
+        ensures { Begun order.start.0 (fresh order.destination.0 (sender_segments order.segments)) result }
     {
         let mut path = Vec::new(heap);
-        path.push(at)?;
+        path.push(order.start)?;
         Ok(Journey {
             path,
-            at,
+            at: order.start,
             spent: 0,
-            packet: Packet::new(destination, segments),
+            packet: Packet::new(order.destination, order.segments),
             state: State::UnderWay,
         })
     }
@@ -60,10 +55,7 @@ impl Journey {
     pub fn is_under_way(&self) -> bool
         ensures { result ≡ is_under_way (flight_of self.now) }
     {
-        match self.state {
-            State::UnderWay => true,
-            State::Delivered | State::Dropped(_) => false,
-        }
+        self.state == State::UnderWay
     }
 }
 

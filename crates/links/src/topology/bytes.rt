@@ -1,5 +1,5 @@
-ghost use Rattle.std.specs.Prelude.{◌≡◌, IfOk, MatchResult};
-ghost use Rattle.links.specs.Answer.{Answers};
+ghost use Rattle.std.specs.Prelude.{◌≡◌, IfOk};
+ghost use Rattle.links.specs.Answer.{Answers, OrMemory};
 ghost use Rattle.links.specs.Topology.{links_of, written_of};
 ghost use Rattle.links.specs.Wire.{Read, reading};
 ghost use Rattle.links.specs.declared.fault.Fault.TheVariants.{Memory};
@@ -21,9 +21,9 @@ impl Topology {
 
     // Writes it as bytes, which read back as the same.
     pub fn write(&self, heap: Global) -> Result<Vec<u8>, Fault>
-        ensures value { MatchResult result (λ v. v.items ≡ written_of self.now) (λ f. f ≡ Memory) }
+        ensures value { OrMemory result (λ v. v.items ≡ written_of self.now) }
         ensures back { IfOk result (λ v. reading v.items ≡ Read self.now.nodes (links_of self.now)) }
     {
-        write_list(heap, self.nodes, self.links.as_slice())
+        write_list(heap, self.nodes, &self.links)
     }
 }

@@ -1,4 +1,4 @@
-ghost use Rattle.std.specs.Prelude.{◌≡◌, ◌<◌, true, false, length, slice_index_or};
+ghost use Rattle.std.specs.Prelude.{◌≡◌, ◌+◌, ◌^◌, ◌<◌, false, true, slice_index_or};
 ghost use Rattle.network.specs.Events.{ArriveAsked, ByMemory, CameAs, RoomAsked, is_over, under_way};
 ghost use Rattle.network.specs.Model.{has_come};
 
@@ -40,9 +40,7 @@ impl Network {
         requires is { sent ≡ slice_index_or self.old.said.items number sent }
         ensures { CameAs number (is_over then) self.old self.new result }
     {
-        let Ok(()) = make_room(&mut self.arrivals, number) else {
-            return Err(Fault::Memory);
-        };
+        make_room(&mut self.arrivals, number)?;
         let answer = self.hear(sent.to, sent.from, sent.message);
         if !wants_memory(answer) {
             self.arrivals[number] = then;
@@ -53,10 +51,11 @@ impl Network {
 
 // An entry for the message, and for those before it.
 fn make_room(arrivals: &mut Vec<Arrival>, number: usize) -> Result<(), Fault>
+    requires { number + 1 < 2 ^ 64 }
     ensures { RoomAsked number arrivals.old.items arrivals.new.items result }
 {
-    while arrivals.len() <= number {
-        arrivals.push(Arrival::NotYet)?;
+    if arrivals.len() <= number {
+        arrivals.resize(number + 1, Arrival::NotYet)?;
     }
     Ok(())
 }
@@ -65,8 +64,5 @@ fn make_room(arrivals: &mut Vec<Arrival>, number: usize) -> Result<(), Fault>
 fn wants_memory(answer: Result<(), Fault>) -> bool
     ensures { ByMemory result answer }
 {
-    match answer {
-        Err(Fault::Memory) => true,
-        Ok(()) | Err(_) => false,
-    }
+    answer == Err(Fault::Memory)
 }

@@ -1,4 +1,5 @@
-ghost use Rattle.std.specs.Prelude.{◌≡◌, length, MatchResult};
+ghost use Rattle.std.specs.Prelude.{◌≡◌, length};
+ghost use Rattle.links.specs.Answer.{OrMemory};
 ghost use Rattle.links.specs.Topology.{network};
 ghost use Rattle.links.specs.declared.fault.Fault.TheVariants.{Memory};
 ghost use Rattle.network.specs.Built.{AllIdle, Built};
@@ -26,8 +27,9 @@ impl Network {
 }
 
 fn all_routers(heap: Global, topology: &Topology) -> Result<Vec<Router>, Fault>
-    ensures { MatchResult result (λ v. (length v.items ≡ (network topology.now).n) × AllIdle (network topology.now) 0 v.items) (λ f. f ≡ Memory) }
+    ensures { OrMemory result (λ v. (length v.items ≡ (network topology.now).n) × AllIdle (network topology.now) 0 v.items) }
 {
+    // a loop over the nodes, since each step may want memory
     let mut routers = Vec::new(heap);
     for u in 0..topology.nodes() {
         let router = Router::new(heap, topology, NodeId(u))?;

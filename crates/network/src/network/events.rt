@@ -17,7 +17,7 @@ impl Network {
     pub fn fail(&mut self, link: LinkId) -> Result<(), Fault>
         ensures { FailAsked (ends link) self.old self.new result }
     {
-        if link.a.0 == link.b.0 {
+        if link.a == link.b {
             return Err(Fault::SelfLink);
         }
         self.judge(link.a, link)?;
@@ -30,10 +30,9 @@ impl Network {
     fn judge(&self, node: NodeId, link: LinkId) -> Result<(), Fault>
         ensures { Judged (hear_down (ends link) ((system self.now).routers node.0)) result }
     {
-        let Some(router) = self.routers.as_slice().get(node.0 as usize) else {
-            return Err(Fault::NoSuchLink);
-        };
-        router.judge_failure(link)
+        self.router(node)
+            .ok_or(Fault::NoSuchLink)?
+            .judge_failure(link)
     }
 
     // A router hears a message.
@@ -41,10 +40,10 @@ impl Network {
         ensures value { HeardAs node.0 from.0 (message_of message) self.old self.new result }
         ensures arrivals { self.new.arrivals.items ≡ self.old.arrivals.items }
     {
-        let Some(router) = self.routers.get_mut(node.0 as usize) else {
-            return Err(Fault::NoSuchLink);
-        };
-        router.hear(from, message, &mut self.said)
+        self.routers
+            .get_mut(node.0 as usize)
+            .ok_or(Fault::NoSuchLink)?
+            .hear(from, message, &mut self.said)
     }
 
     // A router switches for a destination if it may; else nothing changes.
@@ -61,6 +60,7 @@ impl Network {
     pub fn switch_untouched(&mut self, node: NodeId) -> Result<(), Fault>
         ensures { SwitchesAsked node.0 self.old self.new result }
     {
+        // a loop over the nodes, since each step may want memory
         for destination in 0..64 {
             self.switch_if_untouched(node, NodeId(destination))?;
         }
@@ -80,9 +80,7 @@ impl Network {
     fn uses_failed(&self, node: NodeId, destination: NodeId) -> bool
         ensures { result ≡ uses_failed ((system self.now).routers node.0) destination.0 }
     {
-        match self.routers.as_slice().get(node.0 as usize) {
-            Some(router) => router.uses_failed(destination),
-            None => false,
-        }
+        self.router(node)
+            .is_some_and(|router| router.uses_failed(destination))
     }
 }

@@ -20,7 +20,8 @@ impl Network {
         ensures value { result ≡ nodes_in self.now }
         ensures bound { result ≤ 64 }
     {
-        match self.routers.as_slice().first() {
+        // no plainer by map_or, which has the 0 come before the router
+        match self.routers.first() {
             Some(router) => router.forwarder().nodes(),
             None => 0,
         }
@@ -30,7 +31,7 @@ impl Network {
     pub fn router(&self, node: NodeId) -> Option<&Router>
         ensures { MatchOption result (nodes_in self.now ≤ node.0) (λ x. model x.now ≡ (system self.now).routers node.0) }
     {
-        self.routers.as_slice().get(node.0 as usize)
+        self.routers.get(node.0 as usize)
     }
 
     // All messages that were ever sent, the oldest first.
@@ -44,29 +45,23 @@ impl Network {
     pub fn is_message_under_way(&self, number: usize) -> bool
         ensures { result ≡ under_way self.now number }
     {
-        if number >= self.said.len() {
-            return false;
-        }
-        match self.arrival(number) {
-            Arrival::Over => false,
-            Arrival::NotYet | Arrival::Again => true,
-        }
+        number < self.said.len() && self.arrival(number) != Arrival::Over
     }
 
     // How far the message is.
     fn arrival(&self, number: usize) -> Arrival
         ensures { result ≡ slice_index_or self.now.arrivals.items number NotYet }
     {
-        match self.arrivals.as_slice().get(number) {
-            Some(arrival) => *arrival,
-            None => Arrival::NotYet,
-        }
+        self.arrivals
+            .get(number)
+            .copied()
+            .unwrap_or(Arrival::NotYet)
     }
 
     // A packet by its number, which counts from 0.
     pub fn journey(&self, number: usize) -> Option<&Journey>
         ensures { MatchOption result (packets_in self.now ≤ number) (λ j. (flight_of j.now ≡ (system self.now).flights number) × (path_of j.now ≡ path_of_packet self.now number)) }
     {
-        self.journeys.as_slice().get(number)
+        self.journeys.get(number)
     }
 }

@@ -7,39 +7,28 @@ ghost use Rattle.network.specs.Playing.{PutAsked, HopAsked, PlayAsked, Promised,
 
 use super::Network;
 use journeys::journey::Journey;
+use journeys::order::Order;
 use links::fault::Fault;
-use links::node::NodeId;
-use packets::sender::SenderSegments;
 
 impl Network {
     // A packet that waits at its start. The answer is its number, which counts from 0.
-    pub fn put(
-        &mut self,
-        at: NodeId,
-        destination: NodeId,
-        segments: SenderSegments,
-    ) -> Result<usize, Fault>
-        ensures { PutAsked at.0 (fresh destination.0 (sender_segments segments)) self.old self.new result }
+    pub fn put(&mut self, order: Order) -> Result<usize, Fault>
+        ensures { PutAsked order.start.0 (fresh order.destination.0 (sender_segments order.segments)) self.old self.new result }
     {
-        if at.0 as usize >= self.routers.len() {
+        if order.start.0 as usize >= self.routers.len() {
             return Err(Fault::NodeOutOfRange);
         }
         let number = self.journeys.len();
-        let journey = Journey::new(*self.journeys.allocator(), at, destination, segments)?;
+        let journey = Journey::new(*self.journeys.allocator(), order)?;
         self.journeys.push(journey)?;
         Ok(number)
     }
 
     // A packet is put and played to its end. The answer is its number.
-    pub fn send(
-        &mut self,
-        at: NodeId,
-        destination: NodeId,
-        segments: SenderSegments,
-    ) -> Result<usize, Fault>
-        ensures { SendAsked at.0 destination.0 (sender_segments segments) self.old self.new result }
+    pub fn send(&mut self, order: Order) -> Result<usize, Fault>
+        ensures { SendAsked order.start.0 order.destination.0 (sender_segments order.segments) self.old self.new result }
     {
-        let number = self.put(at, destination, segments)?;
+        let number = self.put(order)?;
         self.play(number)?;
         Ok(number)
     }
@@ -51,7 +40,7 @@ impl Network {
         let Some(journey) = self.journeys.get_mut(number) else {
             return Ok(());
         };
-        let Some(router) = self.routers.as_slice().get(journey.at().0 as usize) else {
+        let Some(router) = self.routers.get(journey.at().0 as usize) else {
             return Ok(());
         };
         journey.go_on(router)
@@ -65,6 +54,7 @@ impl Network {
         self.hop_on(number)
     }
 
+    // The loop stands apart, since what `play` promises is proved once, from all that it has done.
     fn hop_on(&mut self, number: usize) -> Result<(), Fault>
         ensures { PlayAsked number self.old self.new result }
     {
@@ -77,9 +67,6 @@ impl Network {
     fn is_under_way(&self, number: usize) -> bool
         ensures { result ≡ is_under_way ((system self.now).flights number) }
     {
-        match self.journeys.as_slice().get(number) {
-            Some(journey) => journey.is_under_way(),
-            None => false,
-        }
+        self.journey(number).is_some_and(Journey::is_under_way)
     }
 }

@@ -3,8 +3,7 @@ ghost use Rattle.packets.specs.Packets.{packet_of, bare, fresh};
 ghost use Rattle.packets.specs.Sender.{sender_segments};
 
 use super::Packet;
-use crate::segment::Segment;
-use crate::segment::arrays::widened;
+use crate::segments::Segments;
 use crate::sender::SenderSegments;
 use links::node::NodeId;
 
@@ -13,12 +12,10 @@ impl Packet {
     pub fn new(destination: NodeId, segments: SenderSegments) -> Packet
         ensures { packet_of result ≡ fresh destination.0 (sender_segments segments) }
     {
-        let count = segments.count;
         Packet {
             destination,
-            hop_limit: 65535,
-            segments: widened(segments.segments, count),
-            count,
+            hop_limit: u16::MAX,
+            segments: segments.into(),
         }
     }
 
@@ -29,8 +26,7 @@ impl Packet {
         Packet {
             destination,
             hop_limit,
-            segments: [Segment::Node(destination); 5],
-            count: 0,
+            segments: Segments::none(),
         }
     }
 }

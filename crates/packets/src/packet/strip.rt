@@ -11,14 +11,8 @@ impl Packet {
     pub fn stripped(self, u: NodeId) -> Packet
         ensures { packet_of result ≡ stripped u.0 (packet_of self) }
     {
-        self.strip(u)
-    }
-
-    fn strip(self, u: NodeId) -> Packet
-        ensures { packet_of result ≡ stripped u.0 (packet_of self) }
-    {
         if own_first(self.segments(), u) {
-            return self.without_first().strip(u);
+            return self.without_first().stripped(u);
         }
         self
     }
@@ -28,8 +22,5 @@ impl Packet {
 fn own_first(segments: &[Segment], u: NodeId) -> bool
     ensures { result ≡ own_in u.0 segments.now }
 {
-    match segments {
-        [Segment::Node(x), ..] if x.0 == u.0 => true,
-        _ => false,
-    }
+    matches!(segments, [Segment::Node(x), ..] if *x == u)
 }

@@ -1,4 +1,4 @@
-use Rattle.std.proofs.Common.{◌++◌, vec_items, codes, ap, ◌∙◌}
+use Rattle.std.proofs.Common.{codes, string_bytes, ap, ◌++◌, ◌∙◌}
 use Rattle.std.specs.List.{flat_map}
 use Rattle.routes.specs.Routes.{routes_network}
 use Rattle.report.specs.Text.{tables, link_row, plan}
@@ -8,6 +8,6 @@ use Rattle.report.proofs.plan_of.Goals as goal
 pub returns : goal.returns
 returns c =
     let z = routes_network c.args.routes.now in
-    three (tables z) (codes "detours\n") (flat_map (link_row z) c.args.links.now) (vec_items c.new-out.result) (vec_items c.push_tables.new.out) (vec_items c.extend_from_slice.new.self) (vec_items c.push_detours.new.out)
-    c.in_ok-push_tables.ensures c.in_ok-extend_from_slice.ensures.items c.in_ok-push_detours.ensures ∙
-    ap (λ x. x ++ plan z c.args.links.now) c.new-out.ensures.items
+    three (tables z) (codes "detours\n") (flat_map (link_row z) c.args.links.now) (string_bytes c.new-out.result) (string_bytes c.push_tables.new.out) (string_bytes c.push_str.new.self) (string_bytes c.push_detours.new.out)
+    c.in_ok-push_tables.ensures c.in_ok-push_str.ensures.bytes c.in_ok-push_detours.ensures ∙
+    ap (λ x. x ++ plan z c.args.links.now) c.new-out.ensures.bytes

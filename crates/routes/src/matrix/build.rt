@@ -4,7 +4,7 @@ ghost use Rattle.links.specs.Topology.{network};
 ghost use Rattle.routes.specs.Costs.{Written};
 ghost use Rattle.routes.specs.Matrix.{matrix_network};
 
-use super::CostMatrix;
+use super::{CostMatrix, put};
 use links::link::Link;
 use links::topology::Topology;
 
@@ -25,12 +25,8 @@ fn costs_of(nodes: u8, links: &[Link]) -> [u16; 4096]
     ensures { Written nodes links.now result }
 {
     let mut costs = [0; 4096];
-    for i in (0..links.len()).rev() {
-        let link = links[i];
-        let a = link.a.0 as usize;
-        let b = link.b.0 as usize;
-        costs[a * 64 + b] = link.cost;
-        costs[b * 64 + a] = link.cost;
+    for link in links.iter().rev() {
+        put(&mut costs, link.a, link.b, link.cost);
     }
     costs
 }

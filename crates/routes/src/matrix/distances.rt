@@ -7,8 +7,9 @@ ghost use Rattle.routes.specs.Matrix.{matrix_network};
 use super::CostMatrix;
 use links::fault::Fault;
 use links::node::NodeId;
+use std::array;
 
-// Stands where there is no path.
+// Stands where there is no path: the distances are lent as slices of 32 bits, where an Option would take twice the room.
 pub const NEVER: u32 = u32::MAX;
 
 impl CostMatrix {
@@ -16,9 +17,7 @@ impl CostMatrix {
     pub fn distances(&self, d: NodeId, dist: &mut [u32]) -> Result<(), Fault>
         ensures { Asked (matrix_network self.now) d.0 dist.old dist.new result }
     {
-        if d.0 >= self.nodes {
-            return Err(Fault::NodeOutOfRange);
-        }
+        d.check(self.nodes)?;
         if dist.len() != self.nodes as usize {
             return Err(Fault::WrongLength);
         }
@@ -34,6 +33,7 @@ impl CostMatrix {
         let end = d.0 as usize;
         dist.fill(NEVER);
         dist[end] = 0;
+        // no heap here: an array, and how many of it are left
         let mut unsettled = numbered();
         let mut left = self.nodes as usize;
         while let Some(i) = nearest(&unsettled[0..left], dist) {
@@ -58,11 +58,7 @@ impl CostMatrix {
 fn numbered() -> [NodeId; 64]
     ensures { Numbered result 64 }
 {
-    let mut nodes = [NodeId(0); 64];
-    for e in 0..64u8 {
-        nodes[e as usize] = NodeId(e);
-    }
-    nodes
+    array::from_fn(|e| NodeId(e as u8))
 }
 
 // Which of the unsettled nodes has the least distance, if any has one.
@@ -70,6 +66,7 @@ fn nearest(unsettled: &[NodeId], dist: &[u32]) -> Option<usize>
     requires { Below unsettled.now (length dist.now) }
     ensures { IsNearest unsettled.now dist.now result }
 {
+    // a chain would make pairs of a distance and a place, and take them apart again
     let mut best = None;
     let mut least = NEVER;
     for (i, node) in unsettled.iter().enumerate() {
@@ -87,8 +84,9 @@ fn relax(row: &[u16], here: u32, dist: &mut [u32])
     requires { (length row.now ≡ length dist.old) × (here ≤ 4194240) }
     ensures { Relaxes row.now here dist.old dist.new }
 {
-    for (e, cost) in row.iter().enumerate() {
-        dist[e] = by_link(*cost, here, dist[e]);
+    // no zip: after one over iter_mut a proof knows nothing of dist
+    for (e, there) in dist.iter_mut().enumerate() {
+        *there = by_link(row[e], here, *there);
     }
 }
 
@@ -97,6 +95,8 @@ fn by_link(cost: u16, here: u32, there: u32) -> u32
     requires { here ≤ 4194240 }
     ensures { result ≡ relaxed cost here there }
 {
-    let by = if cost == 0 { NEVER } else { here + cost as u32 };
-    if by < there { by } else { there }
+    match cost {
+        0 => there,
+        cost => there.min(here + u32::from(cost)),
+    }
 }

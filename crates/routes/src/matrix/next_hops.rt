@@ -13,10 +13,7 @@ impl CostMatrix {
         ensures filled { (d : ℕ) → Filled (matrix_network self.now) d dist.now → hop_of result ≡ next_hop (matrix_network self.now) d a.0 }
         ensures unfit { (length dist.now ≢ self.now.nodes) → result ≡ None }
     {
-        if dist.len() != self.nodes as usize {
-            return None;
-        }
-        if a.0 >= self.nodes {
+        if dist.len() != self.nodes as usize || !self.has(a) {
             return None;
         }
         self.hop_of(a, dist)
@@ -27,13 +24,11 @@ impl CostMatrix {
         requires { (length dist.now ≡ self.now.nodes) × (length hops.old ≡ self.now.nodes) }
         ensures { (d : ℕ) → Filled (matrix_network self.now) d dist.now → HopRow (matrix_network self.now) d self.now.nodes hops.new }
     {
-        for a in 0..self.nodes {
-            hops[a as usize] = self.hop_of(NodeId(a), dist);
+        for (a, hop) in hops.iter_mut().enumerate() {
+            *hop = self.hop_of(NodeId(a as u8), dist);
         }
     }
-}
 
-impl CostMatrix {
     fn hop_of(&self, a: NodeId, dist: &[u32]) -> Option<NodeId>
         requires { (a.0 < self.now.nodes) × (length dist.now ≡ self.now.nodes) }
         ensures { (d : ℕ) → Filled (matrix_network self.now) d dist.now → hop_of result ≡ next_hop (matrix_network self.now) d a.0 }
@@ -49,11 +44,11 @@ fn first_near(row: &[u16], here: u32, dist: &[u32]) -> Option<NodeId>
     requires { (length row.now ≡ length dist.now) × (length row.now ≤ 64) }
     ensures { IsFirst row.now dist.now here result }
 {
+    // a loop left by its label at the first that is as near, and not a chain: a rule of the project
     let mut found = None;
-    'nearest: for e in 0..row.len() as u8 {
-        let there = dist[e as usize];
-        if there < here && here - there == row[e as usize] as u32 {
-            found = Some(NodeId(e));
+    'nearest: for (e, (there, cost)) in dist.iter().zip(row).enumerate() {
+        if *there < here && here - *there == u32::from(*cost) {
+            found = Some(NodeId(e as u8));
             break 'nearest;
         }
     }

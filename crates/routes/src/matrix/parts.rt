@@ -1,4 +1,5 @@
-ghost use Rattle.std.specs.Prelude.{◌≡◌, ◌<◌, ◌≤◌};
+ghost use Rattle.std.specs.Prelude.{◌≡◌};
+ghost use Rattle.links.specs.Links.{IsNodeCount};
 ghost use Rattle.routes.specs.Costs.{link_cost};
 ghost use Rattle.routes.specs.Matrix.{matrix_network};
 
@@ -9,7 +10,7 @@ impl CostMatrix {
     // How many nodes there are: 1 to 64.
     pub fn nodes(&self) -> u8
         ensures value { result ≡ (matrix_network self.now).n }
-        ensures bounds { (0 < result) × (result ≤ 64) }
+        ensures bounds { IsNodeCount result }
     {
         self.nodes
     }
@@ -18,10 +19,7 @@ impl CostMatrix {
     pub fn cost(&self, a: NodeId, b: NodeId) -> Option<u16>
         ensures { result ≡ link_cost (matrix_network self.now) a.0 b.0 }
     {
-        if a.0 >= self.nodes || b.0 >= self.nodes {
-            return None;
-        }
-        match self.costs[a.0 as usize * 64 + b.0 as usize] {
+        match self.costs[self.place(a, b)?] {
             0 => None,
             cost => Some(cost),
         }

@@ -15,6 +15,7 @@ impl CostMatrix {
     {
         let n = self.nodes as usize;
         for d in 0..self.nodes {
+            // a row is lent on as a part of the lent table
             let at = d as usize * 64;
             let row = &mut dist[at..at + n];
             self.settle(NodeId(d), row);

@@ -1,4 +1,6 @@
 ghost use Rattle.std.specs.Prelude.{◌≡◌};
+ghost use Rattle.theory.specs.Network.{without};
+ghost use Rattle.links.specs.Link.{ends};
 ghost use Rattle.links.specs.Topology.{network};
 ghost use Rattle.routes.specs.Matrix.{matrix_network};
 ghost use Rattle.routes.specs.Routes.{routes_network};
@@ -6,6 +8,7 @@ ghost use Rattle.routes.specs.Routes.{routes_network};
 use super::Routes;
 use crate::matrix::CostMatrix;
 use crate::matrix::distances::NEVER;
+use links::link::LinkId;
 use links::topology::Topology;
 
 impl Routes {
@@ -28,5 +31,12 @@ impl Routes {
             distances,
             hops,
         }
+    }
+
+    // The routes of the network that is left when a link fails.
+    pub fn without(&self, link: LinkId) -> Routes
+        ensures { routes_network result ≡ without (ends link) (routes_network self.now) }
+    {
+        Routes::of_costs(self.costs.without(link))
     }
 }

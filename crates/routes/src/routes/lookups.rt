@@ -1,4 +1,5 @@
 ghost use Rattle.std.specs.Prelude.{◌≡◌, ◌<◌, ◌≤◌, ◌⊎◌, IfSome, None};
+ghost use Rattle.links.specs.Links.{IsNodeCount};
 ghost use Rattle.theory.specs.Distance.{distance};
 ghost use Rattle.theory.specs.NextHop.{next_hop};
 ghost use Rattle.routes.specs.Costs.{link_cost};
@@ -22,7 +23,7 @@ impl Routes {
     // How many nodes it has: 1 to 64.
     pub fn nodes(&self) -> u8
         ensures value { result ≡ (routes_network self.now).n }
-        ensures bounds { (0 < result) × (result ≤ 64) }
+        ensures bounds { IsNodeCount result }
     {
         self.costs.nodes()
     }
@@ -40,11 +41,7 @@ impl Routes {
         ensures outside { ((routes_network self.now).n ≤ d.0) ⊎ ((routes_network self.now).n ≤ a.0) → result ≡ None }
         ensures bound { IfSome result (λ c. c ≤ 4128705) }
     {
-        let n = self.nodes();
-        if d.0 >= n || a.0 >= n {
-            return None;
-        }
-        match self.distances[d.0 as usize * 64 + a.0 as usize] {
+        match self.distances[self.costs.place(d, a)?] {
             NEVER => None,
             c => Some(c),
         }
@@ -54,10 +51,6 @@ impl Routes {
     pub fn next_hop(&self, d: NodeId, a: NodeId) -> Option<NodeId>
         ensures { hop_of result ≡ next_hop (routes_network self.now) d.0 a.0 }
     {
-        let n = self.nodes();
-        if d.0 >= n || a.0 >= n {
-            return None;
-        }
-        self.hops[d.0 as usize * 64 + a.0 as usize]
+        self.hops[self.costs.place(d, a)?]
     }
 }

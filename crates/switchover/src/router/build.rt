@@ -1,8 +1,9 @@
 ghost use Rattle.links.specs.Topology.{network};
-ghost use Rattle.switchover.specs.Started.{Started};
+ghost use Rattle.forwarding.specs.Started.{Started};
+ghost use Rattle.switchover.specs.Model.{model};
 
 use super::Router;
-use crate::pending::nobody;
+use crate::node_set::nobody;
 use forwarding::forwarder::Forwarder;
 use links::fault::Fault;
 use links::node::NodeId;
@@ -12,7 +13,7 @@ use std::alloc::Global;
 impl Router {
     // The router at a node of a topology, which knows of no failure.
     pub fn new(heap: Global, topology: &Topology, me: NodeId) -> Result<Router, Fault>
-        ensures { Started (network topology.now) me.0 result }
+        ensures { Started model (network topology.now) me.0 result }
     {
         let forwarder = Forwarder::new(topology, me)?;
         Ok(Router {

@@ -7,13 +7,11 @@ ghost use Rattle.switchover.specs.Model.{model};
 ghost use Rattle.switchover.specs.Replies.{Answered};
 
 use super::Router;
-use crate::early::Early;
-use crate::pending::without;
 use crate::report::Report;
 use links::fault::Fault;
 use links::link::LinkId;
 use links::node::NodeId;
-use messages::message::{Message, Sent};
+use messages::message::{Message, Sent, Switched};
 
 impl Router {
     // It hears a message from a neighbour.
@@ -27,11 +25,7 @@ impl Router {
     {
         match message {
             Message::LinkDown(link) => self.hear_down(link, said),
-            Message::Switched {
-                from: who,
-                destination,
-                link,
-            } => self.hear_switched(from, who, destination, link),
+            Message::Switched(message) => self.hear_switched(from, message),
         }
     }
 
@@ -57,43 +51,34 @@ impl Router {
     }
 
     // A Switched message must come from who says it, and not be for a link that was taken out.
-    fn hear_switched(
-        &mut self,
-        from: NodeId,
-        who: NodeId,
-        destination: NodeId,
-        link: LinkId,
-    ) -> Result<(), Fault>
-        ensures { Quietly (hear_switched from.0 who.0 destination.0 (ends link) (model self.old)) (model self.old) (model self.new) result }
+    fn hear_switched(&mut self, from: NodeId, message: Switched) -> Result<(), Fault>
+        ensures { Quietly (hear_switched from.0 message.from.0 message.destination.0 (ends message.link) (model self.old)) (model self.old) (model self.new) result }
     {
-        let Some(_) = self.forwarder.link_cost(link.a, link.b) else {
-            if self.has_removed(link) {
-                return Err(Fault::NotPending);
-            }
-            return Err(Fault::NoSuchLink);
-        };
-        if from.0 != who.0 {
+        let link = message.link;
+        if !self.has_link(link) {
+            return Err(if self.has_removed(link) {
+                Fault::NotPending
+            } else {
+                Fault::NoSuchLink
+            });
+        }
+        if from != message.from {
             return Err(Fault::NotPending);
         }
         match self.failure() {
-            None => self.keep(who, destination, link),
-            Some(known) if known.joins(link.a, link.b) => self.unwait(who, destination),
+            None => self.keep(message),
+            Some(known) if known.is_same(link) => { self.unwait(message.from, message.destination) }
             Some(_) => Err(Fault::NotPending),
         }
     }
 
-    // It keeps an early message of a neighbour that it would wait for.
-    fn keep(&mut self, who: NodeId, destination: NodeId, link: LinkId) -> Result<(), Fault>
-        ensures { Quietly (switched_in who.0 destination.0 (ends link) (model self.old) NoFailure) (model self.old) (model self.new) result }
+    // It keeps an early message that it would wait for.
+    fn keep(&mut self, message: Switched) -> Result<(), Fault>
+        ensures { Quietly (switched_in message.from.0 message.destination.0 (ends message.link) (model self.old) NoFailure) (model self.old) (model self.new) result }
     {
-        if !self.expects(link, destination, who) {
+        if !self.expects(message) {
             return Err(Fault::NotPending);
         }
-        let message = Early {
-            from: who,
-            destination,
-            link,
-        };
         self.early.push(message)?;
         Ok(())
     }
@@ -105,8 +90,7 @@ impl Router {
         if !self.waits_for(destination, who) {
             return Err(Fault::NotPending);
         }
-        let at = destination.0 as usize;
-        self.pending[at] = without(self.pending[at], who.0);
+        self.pending[destination.0 as usize].remove(who);
         Ok(())
     }
 }

@@ -1,12 +1,13 @@
-ghost use Rattle.std.specs.Prelude.{◌≡◌, ◌<◌, ◌≤◌};
+ghost use Rattle.std.specs.Prelude.{◌≡◌};
+ghost use Rattle.links.specs.Links.{IsNodeCount};
 ghost use Rattle.forwarding.specs.Model.{failure_of};
+ghost use Rattle.protocol.specs.Router.{has_link};
 ghost use Rattle.protocol.specs.Switching.{may};
-ghost use Rattle.routes.specs.Costs.{link_cost};
+ghost use Rattle.links.specs.Link.{ends};
 ghost use Rattle.switchover.specs.Failures.{uses_failed};
 ghost use Rattle.switchover.specs.Model.{model};
 
 use super::Router;
-use crate::pending::{contains, is_empty};
 use forwarding::forwarder::Forwarder;
 use links::link::LinkId;
 use links::node::NodeId;
@@ -29,16 +30,16 @@ impl Router {
     // How many nodes its network has: 1 to 64.
     pub(super) fn nodes(&self) -> u8
         ensures value { result ≡ (model self.now).links.n }
-        ensures bounds { (0 < result) × (result ≤ 64) }
+        ensures bounds { IsNodeCount result }
     {
         self.forwarder.nodes()
     }
 
-    // What its link to a node costs, if it has one.
-    pub(super) fn link_cost(&self, to: NodeId) -> Option<u16>
-        ensures { result ≡ link_cost (model self.now).links (model self.now).me to.0 }
+    // Is the link in its list?
+    pub(super) fn has_link(&self, link: LinkId) -> bool
+        ensures { result ≡ has_link (model self.now).links (ends link) }
     {
-        self.forwarder.link_cost(self.node(), to)
+        self.forwarder.link_cost(link.a, link.b).is_some()
     }
 
     // The link that it knows to be down.
@@ -52,10 +53,8 @@ impl Router {
     pub fn uses_failed(&self, destination: NodeId) -> bool
         ensures { result ≡ uses_failed (model self.now) destination.0 }
     {
-        match self.failure() {
-            Some(link) => self.forwarder.uses(link, destination, self.node()),
-            None => false,
-        }
+        self.failure()
+            .is_some_and(|link| self.forwarder.uses(link, destination, self.node()))
     }
 
     // Has it switched for a destination?
@@ -70,22 +69,18 @@ impl Router {
         ensures { result ≡ (model self.now).pending destination.0 neighbour.0 }
     {
         let n = self.nodes();
-        if destination.0 >= n || neighbour.0 >= n {
-            return false;
-        }
-        contains(self.pending[destination.0 as usize], neighbour.0)
+        destination.is_below(n)
+            && neighbour.is_below(n)
+            && self.pending[destination.0 as usize].contains(neighbour)
     }
 
     // May it switch for a destination?
     pub fn may_switch(&self, destination: NodeId) -> bool
         ensures { result ≡ may (model self.now) destination.0 }
     {
-        let Some(_) = self.failure() else {
-            return false;
-        };
-        if destination.0 >= self.nodes() || self.has_switched(destination) {
-            return false;
-        }
-        is_empty(self.pending[destination.0 as usize], self.nodes())
+        self.failure().is_some()
+            && destination.is_below(self.nodes())
+            && !self.has_switched(destination)
+            && self.pending[destination.0 as usize].is_empty()
     }
 }

@@ -9,24 +9,21 @@ ghost use Rattle.switchover.specs.Replies.{Answered};
 ghost use Rattle.switchover.specs.Switching.{GoneOver, TakenOut, told};
 
 use super::Router;
-use crate::pending::nobody;
+use crate::node_set::nobody;
 use links::fault::Fault;
 use links::link::LinkId;
 use links::node::NodeId;
-use messages::message::{Message, Sent};
+use messages::message::{Message, Sent, Switched};
 
 impl Router {
     // It switches for a destination if it may, and says so to its old next hop.
     pub fn switch(&mut self, destination: NodeId, said: &mut Vec<Sent>) -> Result<(), Fault>
         ensures { Answered (switch (model self.old) destination.0) (model self.old) (model self.new) said.old.items said.new.items result }
     {
-        let Some(link) = self.failure() else {
-            return Ok(());
-        };
-        if !self.may_switch(destination) {
-            return Ok(());
+        match self.failure() {
+            Some(link) if self.may_switch(destination) => self.switch_over(link, destination, said),
+            _ => Ok(()),
         }
-        self.switch_over(link, destination, said)
     }
 
     fn switch_over(
@@ -39,11 +36,15 @@ impl Router {
         requires inside { destination.0 < (model self.old).links.n }
         ensures { Answered (Goes (after_switch destination.0 (ends link) (model self.old)) (says destination.0 (ends link) (model self.old))) (model self.old) (model self.new) said.old.items said.new.items result }
     {
-        let me = self.node();
         let to = self.tells(link, destination);
+        let message = Switched {
+            from: self.node(),
+            destination,
+            link,
+        };
         said.reserve(1)?;
         self.go_over(link, destination)?;
-        say(said, me, to, destination, link);
+        say(said, to, message);
         Ok(())
     }
 
@@ -55,13 +56,9 @@ impl Router {
         if !self.forwarder.uses(link, destination, me) {
             return None;
         }
-        let Some(hop) = self.forwarder.hop_of(destination, me) else {
-            return None;
-        };
-        if link.joins(me, hop) {
-            return None;
-        }
-        Some(hop)
+        self.forwarder
+            .hop_of(destination, me)
+            .filter(|hop| !link.joins(me, *hop))
     }
 
     // Its tables change; with the last destination the link is taken out.
@@ -90,19 +87,15 @@ impl Router {
 }
 
 // The message that it has switched, if there is anybody to tell.
-fn say(said: &mut Vec<Sent>, from: NodeId, to: Option<NodeId>, destination: NodeId, link: LinkId)
+fn say(said: &mut Vec<Sent>, to: Option<NodeId>, message: Switched)
     requires { vec_len said.old < vec_capacity said.old }
-    ensures { sents said.new.items ≡ sents said.old.items ++ told from.0 destination.0 (ends link) (hop_of to) }
+    ensures { sents said.new.items ≡ sents said.old.items ++ told message.from.0 message.destination.0 (ends message.link) (hop_of to) }
 {
     if let Some(to) = to {
         said.push_reserved(Sent {
-            from,
+            from: message.from,
             to,
-            message: Message::Switched {
-                from,
-                destination,
-                link,
-            },
+            message: Message::Switched(message),
         });
     }
 }

@@ -41,12 +41,7 @@ impl Router {
     fn reaches(&self, link: LinkId, to: NodeId) -> bool
         ensures { result ≡ nat_lt 0 ((without (ends link) (model self.now).links).cost (model self.now).me to.0) }
     {
-        if link.joins(self.node(), to) {
-            return false;
-        }
-        match self.link_cost(to) {
-            Some(_) => true,
-            None => false,
-        }
+        let me = self.node();
+        !link.joins(me, to) && self.has_link(LinkId { a: me, b: to })
     }
 }

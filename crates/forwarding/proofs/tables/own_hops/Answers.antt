@@ -1,10 +1,7 @@
-use Rattle.std.proofs.Common.{◌∙◌, arith, length-set}
+use Rattle.std.proofs.Common.{rules}
 use Rattle.routes.specs.Routes.{routes_network}
-use Rattle.forwarding.proofs.OwnTables.{own_hops_more}
+use Rattle.forwarding.proofs.OwnTables.{from_fn_hops}
 use Rattle.forwarding.proofs.tables.own_hops.Goals as goal
 
-pub loop-d-preserved : goal.loop-d-preserved
-loop-d-preserved c = (
-  length-set c.loop-d.hops c.loop-d.d _ ∙ c.loop-d.invariant.0,
-  own_hops_more (routes_network c.args.routes.now) c.args.me.0 c.loop-d.d c.loop-d.hops c.next_hop.result (omega arith) c.loop-d.invariant.1 c.next_hop.ensures,
-)
+pub returns : goal.returns
+returns c = from_fn_hops _ (routes_network c.args.routes.now) c.args.me.0 c.args.routes.now.costs.nodes _ c.from_fn.result (λ d y q k. search rules) c.from_fn.ensures.items c.args.routes.now.costs.few.1

@@ -1,4 +1,4 @@
-use Rattle.std.proofs.Common.{◌<◌, ◌++◌, length, get_or, take, vec_items, sym, ap, ◌∙◌, arith}
+use Rattle.std.proofs.Common.{◌<◌, ◌++◌, length, get_or, take, string_bytes, sym, ap, ◌∙◌, arith}
 use Rattle.std.specs.List.{flat_map}
 use Rattle.std.proofs.lemmas.List.{take_more, take_all, flat_map_more}
 use Rattle.links.specs.Links.{start}
@@ -11,7 +11,7 @@ loop-link-preserved c =
     let i = c.loop-link.link-index in
     let ls = c.args.links.now in
     let z = routes_network c.args.routes.now in
-    let out = vec_items c.args.out.now in
+    let out = string_bytes c.args.out.now in
     let h : i < length ls = omega arith in
     c.in_ok-push_detour_row.ensures ∙
     (ap (λ l. l ++ link_row z (get_or ls i start)) c.loop-link.invariant ∙
@@ -19,5 +19,5 @@ loop-link-preserved c =
 
 pub returns : goal.returns
 returns c =
-    let out = vec_items c.args.out.now in
+    let out = string_bytes c.args.out.now in
     c.loop-link.invariant ∙ ap (λ l. out ++ flat_map (link_row (routes_network c.args.routes.now)) l) (take_all c.loop-link.link-index c.args.links.now (omega arith))

@@ -1,17 +1,11 @@
-use Rattle.std.proofs.Common.{vec_items}
+use Rattle.std.proofs.Common.{◌<◌, rules, arith}
+use Rattle.std.proofs.lemmas.Result.{on_ok_weaker}
 use Rattle.routes.specs.Routes.{routes_network}
-use Rattle.report.proofs.Texts.{tables_text}
+use Rattle.report.proofs.Texts.{from, next, tables_text}
 use Rattle.report.proofs.tables.push_tables.Goals as goal
 
 pub returns : goal.returns
 returns c =
-    tables_text (routes_network c.args.routes.now) c.nodes-nodes.result
-    (vec_items c.args.out.now) (vec_items c.extend_from_slice.new.self) (vec_items c.push_number.new.out) (vec_items c.extend_from_slice-2.new.self)
-    (vec_items c.push_rows.new.out) (vec_items c.extend_from_slice-3.new.self) (vec_items c.push_rows-2.new.out)
-    c.nodes-nodes.ensures.value
-    c.in_ok-extend_from_slice.ensures.items
-    c.in_ok-push_number.ensures
-    c.in_ok-extend_from_slice-2.ensures.items
-    c.in_ok-push_rows.ensures
-    c.in_ok-extend_from_slice-3.ensures.items
-    c.in_ok-push_rows-2.ensures
+    let z = routes_network c.args.routes.now in
+    on_ok_weaker c.push_rows-2.result (λ last. tables_text z c.nodes-nodes.result _ _ _ _ _ c.nodes-nodes.ensures.value
+    c.in_ok-write.ensures.bytes (c.in_ok-push_rows.ensures (from z) (λ a d r l m p. let k : (a < z.n) × (d < z.n) = (omega (arith, c.nodes-nodes.ensures.value), omega (arith, c.nodes-nodes.ensures.value)) in search rules)) c.in_ok-push_str.ensures.bytes last) (c.push_rows-2.ensures (next z) (λ a d r l m p. let k : (a < z.n) × (d < z.n) = (omega (arith, c.nodes-nodes.ensures.value), omega (arith, c.nodes-nodes.ensures.value)) in search rules))

@@ -1,25 +1,12 @@
-use Rattle.std.proofs.Common.{◌≡◌, ℕ, List, IfOk, Ok, Err, Result, sym}
-use Rattle.links.specs.declared.wire.ReadError.{ReadError}
-use Rattle.messages.specs.declared.message.Message.{Message}
+use Rattle.std.proofs.Common.{◌-◌, length, sym, ◌∙◌}
 use Rattle.messages.specs.Messages.{message_of}
-use Rattle.wire.specs.Pieces.{read_as}
-use Rattle.wire.specs.Messages.{MessageLawful, message_bytes, message_in}
+use Rattle.wire.proofs.Fronts.{placed_as, ended_ok}
 use Rattle.wire.proofs.MessageBytes.{message_read}
 use Rattle.wire.proofs.message.read_message.Goals as goal
 
-lawful : (r : Result Message ReadError) (n : ℕ) (bs : List ℕ) → read_as message_of r ≡ message_in n bs → IfOk r (λ m. MessageLawful n (message_of m))
-lawful (Ok m) n bs e = (message_read n bs (message_of m) (sym e)).0
-lawful (Err d) n bs e = tt
-
-spelled : (r : Result Message ReadError) (n : ℕ) (bs : List ℕ) → read_as message_of r ≡ message_in n bs → IfOk r (λ m. message_bytes (message_of m) ≡ bs)
-spelled (Ok m) n bs e = (message_read n bs (message_of m) (sym e)).1
-spelled (Err d) n bs e = tt
-
-pub returns : goal.returns
-returns c =
-    let e = c.read.ensures in
-    record {
-      value = e;
-      lawful = lawful c.read.result c.args.nodes c.args.bytes.now e;
-      spelled = spelled c.read.result c.args.nodes c.args.bytes.now e;
-    }
+pub returns-clause-spelled : goal.returns-clause-spelled
+returns-clause-spelled c =
+    let u = c.new-unread.result in
+    let e = placed_as (λ v. (message_of v.0, v.1.now)) (u.size - length u.bytes.now) c.next_message.result _ _ c.next_message.ensures.value c.in_ok-message.ensures in
+    let z = ended_ok _ c.after.result.bytes.now tt tt (sym c.in_ok-end.ensures) in
+    message_read c.args.nodes _ c.args.bytes.now c.in_ok-message.rest.now (message_of c.in_ok-message.message) e (sym c.after.ensures.rest ∙ z.0)

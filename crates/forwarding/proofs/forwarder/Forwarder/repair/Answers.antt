@@ -1,23 +1,25 @@
-use Rattle.std.proofs.Common.{ap, ◌∙◌, arith}
-use Rattle.protocol.specs.Packet.{put_repair}
+use Rattle.std.proofs.Common.{inl, inr, arith}
 use Rattle.routes.proofs.Costs.{matrix_lawful}
-use Rattle.routes.specs.Routes.{routes_network}
-use Rattle.repairs.specs.Entries.{repair_of}
 use Rattle.forwarding.specs.Model.{model}
-use Rattle.forwarding.proofs.KnownDown.{hop_within, old_hop, repair_found}
+use Rattle.forwarding.proofs.KnownDown.{old_within, laid_found}
 use Rattle.forwarding.proofs.forwarder.Forwarder.repair.Goals as goal
 
-pub bounds-self-hop : goal.bounds-self-hop
-bounds-self-hop c =
+pub bounds-self-cell : goal.bounds-self-cell
+bounds-self-cell c =
     let r = c.args.self.now in
-    let g = matrix_lawful r.routes.costs in
-    let w = hop_within (routes_network r.routes) g c.args.aim.0 r.me.0 c.args.hop.0 (old_hop (model r) g c.args.hop.0 c.args.aim.0 c.requires.hop c.requires.down) in
-    omega (arith, w.0, w.1, r.routes.costs.few.1)
+    let w = old_within (model r) (matrix_lawful r.routes.costs) c.args.hop.0 c.args.aim.0 c.requires.hop c.requires.down in
+    omega (arith, w.0, w.1, r.routes.costs.few.1, c.cell.ensures)
 
-pub returns : goal.returns
-returns c go ss =
+pub returns-in-Via : goal.returns-in-Via
+returns-in-Via c go ss =
     let r = c.args.self.now in
-    let g = matrix_lawful r.routes.costs in
-    let w = hop_within (routes_network r.routes) g c.args.aim.0 r.me.0 c.args.hop.0 (old_hop (model r) g c.args.hop.0 c.args.aim.0 c.requires.hop c.requires.down) in
-    ap (λ o. put_repair go ss (repair_of o)) c.repair_in.ensures ∙
-    repair_found (model r) g c.args.hop.0 c.args.aim.0 c.requires.hop c.requires.down _ (r.laid c.args.hop.0 c.args.aim.0 (w.1, w.0, w.2)) go ss
+    rw (← c.cell.ensures, c.in-Via.is) at (laid_found (model r) (matrix_lawful r.routes.costs) r.repairs r.laid c.args.hop.0 c.args.aim.0 c.requires.hop c.requires.down go ss)
+
+pub returns-in-Apart : goal.returns-in-Apart
+returns-in-Apart c go ss =
+    let r = c.args.self.now in
+    let m = rw (← c.cell.ensures) at (laid_found (model r) (matrix_lawful r.routes.costs) r.repairs r.laid c.args.hop.0 c.args.aim.0 c.requires.hop c.requires.down go ss) in
+    elim c.in-Apart.is [
+      | inl e ↦ rw e at m
+      | inr e ↦ rw e at m
+    ]

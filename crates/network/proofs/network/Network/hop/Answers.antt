@@ -4,23 +4,9 @@ use Rattle.switchover.specs.Model.{model}
 use Rattle.journeys.specs.Journeys.{flight_of, node_in}
 use Rattle.network.specs.Placed.{placed}
 use Rattle.journeys.specs.declared.journey.Journey.{Journey}
-use Rattle.network.proofs.Hops.{none_moves, none_path, handled, handled_inside, hop_asked}
+use Rattle.network.proofs.Hops.{handled, handled_inside, hop_asked}
 use Rattle.network.proofs.Inside.{inside_at, inside_set, placed_at, node_in_lem}
 use Rattle.network.proofs.network.Network.hop.Goals as goal
-
-pub returns-in_default : goal.returns-in_default
-returns-in_default c =
-    let net = c.args.self.now in
-    let js = vec_items net.journeys in
-    let h : length js ≤ c.args.number = c.in_default.ensures.item.3 in
-    record { is = none_moves (vec_items net.routers) (vec_items net.said) (vec_items net.arrivals) js c.args.number h; path = none_path (vec_items net.routers) (vec_items net.said) (vec_items net.arrivals) js c.args.number h; others = λ p w. refl }
-
-pub invariant_of-self-in_default-get : goal.invariant_of-self-in_default-get
-invariant_of-self-in_default-get c =
-    let net = c.args.self.now in
-    let j = c.in-Some.journey.now in
-    let i = c.in-Some.ensures.item in
-    record { in_place = net.in_place; in_reach = inside_set (length (vec_items net.routers)) (vec_items net.journeys) c.args.number j net.in_reach (inside_at (length (vec_items net.routers)) (vec_items net.journeys) c.args.number j net.in_reach i.3.0 i.1) }
 
 pub returns-in_default-get : goal.returns-in_default-get
 returns-in_default-get c =
@@ -28,8 +14,8 @@ returns-in_default-get c =
     let j = c.in-Some.journey.now in
     let i = c.in-Some.ensures.item in
     let l : j.at.0 < length (vec_items net.routers) = inside_at (length (vec_items net.routers)) (vec_items net.journeys) c.args.number j net.in_reach i.3.0 i.1 in
-    let h : length c.as_slice.result.now ≤ c.at.result.0 = c.in_default-get.ensures.lookup.3 in
-    absurd (omega (arith, ap length c.as_slice.ensures.value, c.at.ensures ∙ node_in_lem j))
+    let h : length c.deref.result.now ≤ c.at.result.0 = c.in_default-get.ensures.lookup.3 in
+    absurd (omega (arith, ap length c.deref.ensures.value, c.at.ensures ∙ node_in_lem j))
 
 -- the router that was found, and the packet
 abbrev Found : List Router → Journey → Router → Type 0
@@ -48,7 +34,7 @@ invariant_of-self-2 c =
     let j = c.in-Some.journey.now in
     let r = c.in-Some-get.router.now in
     let i = c.in-Some-get.ensures.lookup in
-    let f = found (vec_items net.routers) c.as_slice.result.now c.at.result.0 j r net.in_place c.as_slice.ensures.value c.at.ensures i.3.0 i.1 in
+    let f = found (vec_items net.routers) c.deref.result.now c.at.result.0 j r net.in_place c.deref.ensures.value c.at.ensures i.3.0 i.1 in
     record { in_place = net.in_place; in_reach = inside_set (length (vec_items net.routers)) (vec_items net.journeys) c.args.number c.go_on.new.self net.in_reach (handled_inside (length (vec_items net.routers)) r j c.go_on.new.self c.go_on.result f.2 f.0 c.go_on.ensures) }
 
 pub returns : goal.returns
@@ -58,6 +44,6 @@ returns c =
     let r = c.in-Some-get.router.now in
     let i = c.in-Some-get.ensures.lookup in
     let k = c.in-Some.ensures.item in
-    let f = found (vec_items net.routers) c.as_slice.result.now c.at.result.0 j r net.in_place c.as_slice.ensures.value c.at.ensures i.3.0 i.1 in
+    let f = found (vec_items net.routers) c.deref.result.now c.at.result.0 j r net.in_place c.deref.ensures.value c.at.ensures i.3.0 i.1 in
     hop_asked c.args.number net _ c.go_on.new.self c.go_on.result refl (λ p. refl)
     (handled (vec_items net.routers) (vec_items net.said) (vec_items net.arrivals) (vec_items net.journeys) c.args.number r j c.go_on.new.self c.go_on.result k.3.0 k.1 f.0 f.1 c.go_on.ensures)

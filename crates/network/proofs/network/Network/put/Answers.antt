@@ -10,7 +10,7 @@ pub invariant_of-self : goal.invariant_of-self
 invariant_of-self c =
     let net = c.args.self.now in
     let j = c.in_ok-journey.journey in
-    let e : j.at.0 ≡ c.args.at.0 = sym (node_in_lem j) ∙ ap node_in c.in_ok-journey.ensures.0 in
+    let e : j.at.0 ≡ c.args.order.start.0 = sym (node_in_lem j) ∙ ap node_in c.in_ok-journey.ensures.0 in
     let l : j.at.0 < length (vec_items net.routers) = omega (arith, c.len.ensures, net.routers.ok) in
     record { in_place = net.in_place; in_reach = inside_pushed (length (vec_items net.routers)) (vec_items net.journeys) (vec_items c.push.new.self) j _ c.push.ensures.items net.in_reach l }
 
@@ -25,7 +25,7 @@ returns c =
     rw n (
     record {
       next = refl;
-      is = ap (λ (l : List Journey). system_of (vec_items net.routers) (vec_items net.said) (vec_items net.arrivals) l) e ∙ put_system (vec_items net.routers) (vec_items net.said) (vec_items net.arrivals) js j c.args.at.0 _ h.0;
+      is = ap (λ (l : List Journey). system_of (vec_items net.routers) (vec_items net.said) (vec_items net.arrivals) l) e ∙ put_system (vec_items net.routers) (vec_items net.said) (vec_items net.arrivals) js j c.args.order.start.0 _ h.0;
       path = ap (λ (l : List Journey). path_at l (length js)) e ∙ put_path js j _ h.1;
       others = λ p w. ap (λ (l : List Journey). path_at l p) e ∙ put_others js j p w;
     }

@@ -1,11 +1,8 @@
 use Rattle.std.proofs.Common.{vec_items, refl}
 use Rattle.protocol.specs.Switching.{switch}
 use Rattle.switchover.specs.Model.{model}
-use Rattle.network.proofs.Replies.{asked, still_placed, switch_put, switch_asked, switch_outside}
+use Rattle.network.proofs.Replies.{asked, still_placed, switch_put, switch_asked}
 use Rattle.network.proofs.network.Network.switch.Goals as goal
-
-pub returns-in_default : goal.returns-in_default
-returns-in_default c = switch_outside c.args.node.0 c.args.destination.0 c.args.self.now _ (record { paths = λ p. refl; waiting = λ k. refl }) refl c.in_default.ensures.item.3
 
 pub invariant_of-self-2 : goal.invariant_of-self-2
 invariant_of-self-2 c =

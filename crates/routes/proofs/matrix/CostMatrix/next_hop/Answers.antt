@@ -1,10 +1,14 @@
-use Rattle.std.proofs.Common.{refl, arith}
+use Rattle.std.proofs.Common.{arith, rules}
 use Rattle.routes.specs.Matrix.{matrix_network}
 use Rattle.routes.proofs.Costs.{matrix_lawful}
 use Rattle.routes.proofs.Steps.{hop_outside}
+use Rattle.routes.proofs.matrix.CostMatrix.next_hop.Goals.{then-dist-self-via-then-dist-self, then-dist-self-via-else-dist-self+then-not-has}
 use Rattle.routes.proofs.matrix.CostMatrix.next_hop.Goals as goal
 
-pub returns-then-a-self : goal.returns-then-a-self
-returns-then-a-self c =
+pub returns-then-dist-self-clause-filled : goal.returns-then-dist-self-clause-filled
+returns-then-dist-self-clause-filled c d f =
     let m = c.args.self.now in
-    record { filled = λ d f. hop_outside (matrix_network m) (matrix_lawful m) d c.args.a.0 (λ h. omega (arith, h.1)); unfit = λ _. refl }
+    hop_outside (matrix_network m) (matrix_lawful m) d c.args.a.0 (λ h. elim c.then-dist-self.branch [
+      | then-dist-self-via-then-dist-self w ↦ omega (arith, f.size)
+      | then-dist-self-via-else-dist-self+then-not-has w ↦ search rules
+    ])

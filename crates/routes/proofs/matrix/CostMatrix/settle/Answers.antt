@@ -1,8 +1,8 @@
-use Rattle.std.proofs.Common.{◌≡◌, ◌-◌, length, get_or, take, sym, refl, ap, ◌∙◌, subst, arith, rules}
-use Rattle.routes.specs.Dijkstra.{relaxed, number_at, Below, Nearest, NoneNearer}
+use Rattle.std.proofs.Common.{◌≡◌, ◌-◌, length, get_or, take, refl, ap, ◌∙◌, subst, arith, rules}
+use Rattle.routes.specs.Dijkstra.{relaxed, number_at, Nearest, NoneNearer}
 use Rattle.routes.specs.Matrix.{matrix_network}
 use Rattle.routes.proofs.Costs.{matrix_lawful, matrix_limited}
-use Rattle.routes.proofs.Settled.{stands_none, stands_within, stands_more, stands_all, stands_small, some_left}
+use Rattle.routes.proofs.Settled.{stands_none, stands_more, stands_all, some_left}
 use Rattle.routes.proofs.matrix.CostMatrix.settle.Goals as goal
 
 pub loop-i-init : goal.loop-i-init
@@ -10,21 +10,6 @@ loop-i-init c =
     let m = c.args.self.now in
     let n : length c.numbered-unsettled.result ≡ 64 = search rules in
     stands_none (matrix_network m) (matrix_lawful m) (matrix_limited m) c.args.d.0 c.numbered-unsettled.result c.fill.new.self n c.numbered-unsettled.ensures c.requires.0 (omega arith) (λ k h. c.fill.ensures.clones k 0 (omega arith) refl)
-
-pub nearest-requires : goal.nearest-requires
-nearest-requires c =
-    let m = c.args.self.now in
-    let e : c.loop-i.left ≡ c.loop-i.left - 0 = omega arith in
-    subst (λ j. Below (take j c.loop-i.unsettled) (length c.loop-i.dist)) e
-    (stands_within (matrix_network m) (matrix_lawful m) (matrix_limited m) c.args.d.0 c.loop-i.unsettled c.loop-i.left c.loop-i.dist c.loop-i.invariant)
-
-pub relax-requires : goal.relax-requires
-relax-requires c =
-    let m = c.args.self.now in
-    let e : c.loop-i.left - 0 ≡ c.loop-i.left = omega arith in
-    let n = subst (λ j. Nearest (take j c.loop-i.unsettled) c.loop-i.dist c.in-Some.i) e c.in-Some.ensures in
-    let s = some_left (matrix_network m) (matrix_lawful m) (matrix_limited m) c.args.d.0 c.loop-i.unsettled c.loop-i.left c.loop-i.dist c.loop-i.invariant c.in-Some.i n in
-    (c.row.ensures.size ∙ sym c.loop-i.invariant.size, stands_small (matrix_network m) (matrix_lawful m) (matrix_limited m) c.args.d.0 c.loop-i.unsettled c.loop-i.left c.loop-i.dist c.loop-i.invariant (c.loop-i.left - 1) s c.in-Some.i n)
 
 pub loop-i-preserved : goal.loop-i-preserved
 loop-i-preserved c =

@@ -4,8 +4,8 @@ use Rattle.routes.proofs.Costs.{matrix_lawful}
 use Rattle.routes.proofs.Steps.{hop_outside}
 use Rattle.routes.proofs.routes.Routes.next_hop.Goals as goal
 
-pub returns-then-d-n : goal.returns-then-d-n
-returns-then-d-n c =
+pub returns-in_err-place : goal.returns-in_err-place
+returns-in_err-place c =
     let r = c.args.self.now in
-    hop_outside (routes_network r) (matrix_lawful r.costs) c.args.d.0 c.args.a.0
-    (λ h. elim c.then-d-n.either [ inl x ↦ omega (arith, h.0) | inr x ↦ omega (arith, h.1, x.1) ])
+    rw c.from_residual.ensures (hop_outside (routes_network r) (matrix_lawful r.costs) c.args.d.0 c.args.a.0
+    (λ h. elim c.in_err-place.ensures [ inl x ↦ omega (arith, h.0) | inr x ↦ omega (arith, h.1) ]))

@@ -1,4 +1,4 @@
-use Rattle.std.proofs.Common.{◌≡◌, ◌++◌, vec_items, sym, ap, ◌∙◌, append-nil, arith}
+use Rattle.std.proofs.Common.{vec_items, sym, append-nil, arith}
 use Rattle.links.specs.Link.{ends}
 use Rattle.messages.specs.Messages.{sents}
 use Rattle.protocol.specs.Hearing.{tell}
@@ -16,9 +16,3 @@ loop-k-preserved c =
       omega arith,
       tell_more s.links (ends c.args.link) s.me c.loop-k.k (sents (vec_items c.args.said.now)) (sents (vec_items c.loop-k.said)) _ c.loop-k.invariant.1 c.tell_one.ensures.items,
     )
-
-pub returns : goal.returns
-returns c =
-    let s = model c.args.self.now in
-    let e : c.loop-k.k ≡ s.links.n = omega arith in
-    c.loop-k.invariant.1 ∙ ap (λ k. sents (vec_items c.args.said.now) ++ tell s.links (ends c.args.link) s.me k) e

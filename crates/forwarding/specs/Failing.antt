@@ -1,0 +1,29 @@
+-- A router comes to know that a link of its list is down. Assumes nothing.
+use Rattle.std.specs.Prelude.{◌≡◌, ℕ, cond, [], Some, None, Option, Result, MatchResult}
+use Rattle.links.specs.Fault.{number}
+use Rattle.links.specs.declared.fault.Fault.{Fault}
+use Rattle.theory.specs.Network.{LinkId}
+use Rattle.protocol.specs.Router.{Router, Failure, NoFailure, Down, Reply, Refused, Stays, Goes, has_link, same_link}
+use Rattle.forwarding.specs.Switching.{knowing}
+
+abbrev pub fail_in : LinkId → Router → Failure → Reply
+fail_in l s NoFailure = Goes (knowing l s) []
+fail_in l s (Down m) = cond (same_link m l) Stays (Refused 5)
+
+-- a link that is not in the list is 4, another than the one it knows of is 5, and the same again changes nothing
+abbrev pub failing : LinkId → Router → Reply
+failing l s = cond (has_link s.links l) (fail_in l s s.failure) (Refused 4)
+
+-- the router after a reply that accepts
+abbrev pub after : Router → Reply → Option Router
+after s (Refused k) = None
+after s Stays = Some s
+after s (Goes t _) = Some t
+
+abbrev pub refused_by : Option ℕ → Reply
+refused_by None = Refused 0
+refused_by (Some k) = Refused k
+
+-- accepted, or refused by a fault's number, and then nothing changes
+abbrev pub FailAsked : LinkId → Router → Router → {A : Type 0} → Result A Fault → Type 0
+FailAsked l old new r = MatchResult r (λ _. after old (failing l old) ≡ Some new) (λ f. (failing l old ≡ refused_by (number f)) × (new ≡ old))
