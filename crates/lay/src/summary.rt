@@ -70,9 +70,10 @@ impl Count {
 
     // What both ends of a link have laid up, for each destination.
     fn add_link(&mut self, routes: &Routes, link: LinkId) -> Result<(), Fault> {
-        let detours = detours(routes, link)?;
-        self.name_cut(link, link.a, &detours)?;
-        self.name_cut(link, link.b, &detours)?;
+        let all = detours(routes, link)?;
+        let detours = &all[..routes.nodes() as usize];
+        self.name_cut(link, link.a, detours)?;
+        self.name_cut(link, link.b, detours)?;
         for (d, detour) in (0..routes.nodes()).zip(detours.iter()) {
             self.add(routes, link, NodeId(d), *detour);
         }
