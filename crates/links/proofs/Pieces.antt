@@ -1,10 +1,13 @@
 -- The clauses of read_links, by what the code tests. Assumes nothing.
-use Rattle.std.proofs.Common.{◌≡◌, ℕ, zero, suc, ◌+◌, ◌-◌, ◌<◌, ◌≤◌, eqb, ltb, List, [], ◌∷◌, ◌++◌, length, drop, slice_get, refl, append_assoc, Ok, Err, Result, sym, ap, ap₂, ◌∙◌, arith}
+use Rattle.std.proofs.Common.{◌≡◌, ℕ, zero, suc, ◌-◌, ◌<◌, ◌≤◌, eqb, ltb, List, [], ◌∷◌, ◌++◌, length, drop, slice_get, refl, append_assoc, Ok, Err, Result, sym, ap, ap₂, ◌∙◌, inr, append-nil, arith, rules}
 use Rattle.std.proofs.lemmas.Bool.{lt-ltb, le-ltb, eq-eqb, ne_eqb, cond-true, cond-false}
 use native.Mathlib.Numerals.{unary_clauses}
 use Rattle.links.specs.declared.link.Link.{Link}
 use Rattle.links.specs.declared.fault.Fault.{Fault}
 use Rattle.links.specs.declared.fault.Fault.TheVariants.{Truncated, TrailingBytes}
+use Rattle.links.specs.declared.wire.ReadError.{ReadError}
+use Rattle.links.specs.Answer.{Refusal}
+use Rattle.links.specs.Unread.{placed, ended}
 use Rattle.links.specs.Wire.{link_at, last_link, check_link, judged, with_link, read_links, Reading, Read, Refused}
 
 pub read_end : (k n : ℕ) (p : Link) (m : ℕ) (bs : List ℕ) → k ≡ 0 → length bs ≡ 0 → read_links k n p m bs ≡ Read n []
@@ -62,12 +65,24 @@ read_more k n ls l m bs more w h q e d c v =
     let s = ap₂ (λ x xs. with_link x (read_links (k - 1) n x m xs)) e d in
     v ∙ (ap (with_links ls) (r ∙ sym s) ∙ (with_links-push ls l (read_links (k - 1) n l m more) ∙ ap (λ x. with_links (ls ++ (l ∷ [])) (read_links (k - 1) n x m more)) (sym (last_of-push ls l))))
 
--- a fault of the next piece, which begins at the byte i
-pub refuse_here : (k n : ℕ) (ls : List Link) (m i : ℕ) (bs : List ℕ) (w : Reading) (f : Fault) → i + length bs ≡ m → read_links k n (last_of ls) m bs ≡ Refused f (m - length bs) →
-    w ≡ with_links ls (read_links k n (last_of ls) m bs) → w ≡ Refused f i
-refuse_here k n ls m i bs w f h q v = let j : m - length bs ≡ i = omega arith in v ∙ (ap (with_links ls) q ∙ ap (Refused f) j)
+-- a fault of the next piece
+pub refuse_here : (k n : ℕ) (ls : List Link) (m : ℕ) (bs : List ℕ) (w : Reading) (f : Fault) → read_links k n (last_of ls) m bs ≡ Refused f (m - length bs) → w ≡ with_links ls (read_links k n (last_of ls) m bs) → w ≡ Refused f (m - length bs)
+refuse_here k n ls m bs w f q v = v ∙ ap (with_links ls) q
 
-pub refuse_link : (k n : ℕ) (ls : List Link) (l : Link) (m i : ℕ) (bs : List ℕ) (w : Reading) (r : Result (Unit {0}) Fault) → 0 < k → 4 ≤ length bs → l ≡ link_at bs → r ≡ check_link n (last_of ls) l → i + length bs ≡ m →
-    w ≡ with_links ls (read_links k n (last_of ls) m bs) → (f : Fault) → r ≡ Err f → w ≡ Refused f i
-refuse_link k n ls l m i bs w r h q e c j v f u =
-    refuse_here k n ls m i bs w f j (read_refused k n (last_of ls) m bs f h q (ap (check_link n (last_of ls)) (sym e) ∙ (sym c ∙ u))) v
+pub refuse_link : (k n : ℕ) (ls : List Link) (l : Link) (m : ℕ) (bs : List ℕ) (w : Reading) (r : Result (Unit {0}) Fault) (e : ReadError) → 0 < k → 4 ≤ length bs → l ≡ link_at bs → r ≡ check_link n (last_of ls) l →
+    w ≡ with_links ls (read_links k n (last_of ls) m bs) → Err e ≡ placed (m - length bs) r → Refusal e w
+refuse_link k n ls l m bs w (Ok x) e h q d c v u = cc
+refuse_link k n ls l m bs w (Err f) e h q d c v u =
+    let z : e ≡ record { fault = f; at = m - length bs } = cc in
+    rw z (inr (refuse_here k n ls m bs w f (read_refused k n (last_of ls) m bs f h q (ap (check_link n (last_of ls)) (sym d) ∙ sym c)) v))
+
+-- the end, after all links
+pub end_refused : (k n : ℕ) (ls : List Link) (m : ℕ) (bs : List ℕ) (w : Reading) (e : ReadError) → k ≡ 0 → w ≡ with_links ls (read_links k n (last_of ls) m bs) → Err e ≡ ended (m - length bs) bs (tt {0}) → Refusal e w
+end_refused k n ls m [] w e z v u = cc
+end_refused k n ls m (b ∷ bs) w e z v u =
+    let q : e ≡ record { fault = TrailingBytes; at = m - length (b ∷ bs) } = search rules in
+    rw q (inr (refuse_here k n ls m (b ∷ bs) w TrailingBytes (read_trailing k n (last_of ls) m (b ∷ bs) z (λ h. omega (arith, h))) v))
+
+pub end_fine : (k n : ℕ) (ls : List Link) (m : ℕ) (bs : List ℕ) (w : Reading) → k ≡ 0 → w ≡ with_links ls (read_links k n (last_of ls) m bs) → Ok (tt {0}) ≡ ended (m - length bs) bs (tt {0}) → w ≡ Read n ls
+end_fine k n ls m [] w z v u = v ∙ (ap (with_links ls) (read_end k n (last_of ls) m [] z refl) ∙ ap (Read n) (append-nil ls))
+end_fine k n ls m (b ∷ bs) w z v u = search rules

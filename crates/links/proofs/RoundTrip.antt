@@ -2,7 +2,7 @@
 use Rattle.std.proofs.Common.{◌≡◌, ℕ, zero, suc, ◌+◌, ◌-◌, ◌*◌, ◌/◌, ◌%◌, ◌<◌, ◌≤◌, true, false, cond, ◌&&◌, eqb, ltb, leb, List, [], ◌∷◌, ◌++◌, length, get_or, drop, Ok, Err, Result, sym, refl, ap, ◌∙◌, subst, ap₂, inl, inr, arith}
 use Rattle.std.specs.List.{flat_map}
 use Rattle.std.proofs.lemmas.Bool.{ltb-true, ltb-false, leb-true, eqb-true, eqb-false, lt-ltb, le-ltb, le-leb, ne_eqb, cases_lt, and_parts, cases_eq, cases_Bool, and_from, cond-true, cond-false}
-use Rattle.std.proofs.lemmas.List.{get_or-drop, length-drop, nil_from_length}
+use Rattle.std.proofs.lemmas.List.{get_or-drop, nil_from_length}
 use Rattle.std.proofs.lemmas.Nat.{div-add-mod', div-mul-add, mod-mul-add}
 use Rattle.links.specs.Answer.{ReadWhole}
 use Rattle.links.specs.Wire.{link_bytes, written, link_at, check_link, check_header, judged, with_link, read_links, reading, Reading, Read, Refused}
@@ -188,11 +188,10 @@ written_reads n ls h k t =
     (ap (λ i. read_links i n start (length (written n ls)) (flat_map link_bytes ls)) (two_bytes (length ls)) ∙ reads_written n start (length (written n ls)) ls t)
 
 -- a whole list that is read
-pub read_whole : (bs rest : List ℕ) (count : ℕ) (ls : List Link) → Bytes bs → 4 ≤ length bs → check_header (get_or bs 0 0) (get_or bs 1 0) ≡ passed → count ≡ get_or bs 2 0 * 256 + get_or bs 3 0 → rest ≡ drop 4 bs →
-    read_links count (get_or bs 1 0) start (4 + length rest) rest ≡ Read (get_or bs 1 0) ls → ReadWhole bs (get_or bs 1 0) ls
-read_whole bs rest count ls h l e k q r =
+pub read_whole : (bs rest : List ℕ) (count size : ℕ) (ls : List Link) → Bytes bs → 4 ≤ length bs → check_header (get_or bs 0 0) (get_or bs 1 0) ≡ passed → count ≡ get_or bs 2 0 * 256 + get_or bs 3 0 → rest ≡ drop 4 bs → size ≡ length bs →
+    read_links count (get_or bs 1 0) start size rest ≡ Read (get_or bs 1 0) ls → ReadWhole bs (get_or bs 1 0) ls
+read_whole bs rest count size ls h l e k q m r =
     let p = header_parts (get_or bs 0 0) (get_or bs 1 0) e in
-    let m : 4 + length rest ≡ length bs = omega (arith, ap length q, length-drop 4 bs) in
     let s : read_links (get_or bs 2 0 * 256 + get_or bs 3 0) (get_or bs 1 0) start (length bs) (drop 4 bs) ≡ Read (get_or bs 1 0) ls = rw (← k, ← q, ← m) r in
     let w = was_read (get_or bs 2 0 * 256 + get_or bs 3 0) (get_or bs 1 0) (get_or bs 1 0) start (length bs) ls (drop 4 bs) (bytes_drop 4 bs h) s in
     record {

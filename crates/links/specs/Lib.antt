@@ -3,4 +3,5 @@ pub mod Link
 pub mod Links
 pub mod Topology
 pub mod Wire
+pub mod Unread
 pub mod Answer

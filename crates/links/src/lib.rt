@@ -5,4 +5,5 @@ pub mod fault;
 pub mod link;
 pub mod node;
 pub mod topology;
+pub mod unread;
 pub mod wire;

@@ -1,7 +1,8 @@
 ghost use Rattle.std.specs.Prelude.{◌≡◌, Some};
 ghost use Rattle.theory.specs.Network.{joins};
-ghost use Rattle.links.specs.Link.{ends, ends_of, link_name, lower_first};
+ghost use Rattle.links.specs.Link.{ends, ends_of, check_ends, link_name, lower_first};
 
+use crate::fault::Fault;
 use crate::node::NodeId;
 use std::fmt;
 
@@ -25,6 +26,18 @@ impl LinkId {
         ensures { result ≡ joins (ends self) other.a.0 other.b.0 }
     {
         self.joins(other.a, other.b)
+    }
+
+    // Refused where its ends aren't two of so many nodes.
+    pub fn check(self, nodes: u8) -> Result<(), Fault>
+        ensures { result ≡ check_ends nodes (ends self) }
+    {
+        self.a.check(nodes)?;
+        self.b.check(nodes)?;
+        if self.a == self.b {
+            return Err(Fault::SelfLink);
+        }
+        Ok(())
     }
 
     // The same link, by its lower node first.

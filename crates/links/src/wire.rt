@@ -10,6 +10,7 @@ ghost use Rattle.links.specs.declared.fault.Fault.TheVariants.{Memory};
 use crate::fault::Fault;
 use crate::link::Link;
 use crate::node::NodeId;
+use crate::unread::Unread;
 use std::alloc::{AllocFailed, Global};
 use std::fmt;
 
@@ -122,32 +123,21 @@ fn check_header(kind: u8, nodes: u8) -> Result<(), Fault>
     }
 }
 
-// So many links, and then the end. Those that are not yet read are handed on as the rest of the bytes, which begins at
-// the byte `at`.
-fn read_links(heap: Global, nodes: u8, count: u16, bytes: &[u8]) -> Result<Vec<Link>, ReadError>
-    ensures { MatchResult result (λ v. read_links count nodes start (4 + length bytes.now) bytes.now ≡ Read nodes v.items) (λ e. Refusal e (read_links count nodes start (4 + length bytes.now) bytes.now)) }
+// So many links, and then the end. Those that are not yet read are handed on as the rest of the bytes.
+fn read_links(heap: Global, nodes: u8, count: u16, unread: Unread) -> Result<Vec<Link>, ReadError>
+    ensures { MatchResult result (λ v. read_links count nodes start unread.entry.size unread.entry.bytes.now ≡ Read nodes v.items) (λ e. Refusal e (read_links count nodes start unread.entry.size unread.entry.bytes.now)) }
 {
     let mut links = Vec::new(heap);
-    let mut rest = bytes;
-    let mut at = 4;
+    let mut rest = unread;
     for _ in 0..count {
-        let Some((link, more)) = next_link(rest) else {
-            return Err(ReadError {
-                fault: Fault::Truncated,
-                at,
-            });
+        let Some((link, more)) = next_link(rest.bytes) else {
+            return rest.piece(Err(Fault::Truncated));
         };
-        check_link(nodes, links.last().copied(), link).map_err(|fault| ReadError { fault, at })?;
+        rest.piece(check_link(nodes, links.last().copied(), link))?;
         links.push(link)?;
-        rest = more;
-        at += 4;
+        rest = rest.after(more);
     }
-    if !rest.is_empty() {
-        return Err(ReadError {
-            fault: Fault::TrailingBytes,
-            at,
-        });
-    }
+    rest.end()?;
     Ok(links)
 }
 
@@ -155,14 +145,12 @@ fn read_links(heap: Global, nodes: u8, count: u16, bytes: &[u8]) -> Result<Vec<L
 pub(crate) fn read_list(heap: Global, bytes: &[u8]) -> Result<(u8, Vec<Link>), ReadError>
     ensures { MatchResult result (λ p. ReadWhole bytes.now p.0 p.1.items) (λ e. Refusal e (reading bytes.now)) }
 {
+    let unread = Unread::new(bytes);
     let [kind, nodes, high, low, rest @ ..] = bytes else {
-        return Err(ReadError {
-            fault: Fault::Truncated,
-            at: 0,
-        });
+        return unread.piece(Err(Fault::Truncated));
     };
-    check_header(*kind, *nodes).map_err(|fault| ReadError { fault, at: 0 })?;
-    let links = read_links(heap, *nodes, number(*high, *low), rest)?;
+    unread.piece(check_header(*kind, *nodes))?;
+    let links = read_links(heap, *nodes, number(*high, *low), unread.after(rest))?;
     Ok((*nodes, links))
 }
 

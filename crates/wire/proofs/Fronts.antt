@@ -3,7 +3,8 @@ use Rattle.std.proofs.Common.{◌≡◌, ℕ, ◌≤◌, List, [], ◌∷◌, le
 use Rattle.std.specs.Result.{result_map_both}
 use Rattle.links.specs.declared.fault.Fault.{Fault}
 use Rattle.links.specs.declared.wire.ReadError.{ReadError}
-use Rattle.wire.specs.Pieces.{placed, Front, whole, judged, piece, ended, read_as}
+use Rattle.links.specs.Unread.{placed, ended}
+use Rattle.wire.specs.Pieces.{Front, whole, judged, piece, read_as}
 
 -- all bytes are there
 

@@ -2,7 +2,8 @@
 use Rattle.std.proofs.Common.{◌≡◌, ℕ, ◌<◌, ◌≤◌, List, length, drop, None, Ok, Err, Option, arith, rules}
 use Rattle.links.specs.declared.fault.Fault.{Fault}
 use Rattle.links.specs.declared.wire.ReadError.{ReadError}
-use Rattle.wire.specs.Pieces.{read_as, placed, unless}
+use Rattle.links.specs.Unread.{placed}
+use Rattle.wire.specs.Pieces.{read_as, unless}
 use Rattle.wire.specs.Packets.{most, segments_in, header_of, header_fault, with_header, packet_in, Header}
 use Rattle.wire.specs.declared.origin.Origin.{Origin}
 use Rattle.wire.specs.declared.origin.Origin.TheVariants.{Sender, Neighbour}

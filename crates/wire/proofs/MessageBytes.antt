@@ -1,7 +1,8 @@
 -- What is read of a message was written so. Assumes nothing.
 use Rattle.std.proofs.Common.{◌≡◌, ℕ, List, [], ◌++◌, None, Ok, sym, ap, ◌∙◌, append-nil, rules}
 use Rattle.protocol.specs.Router.{Message, LinkDown, Switched}
-use Rattle.wire.specs.Pieces.{placed, judged}
+use Rattle.links.specs.Unread.{placed}
+use Rattle.wire.specs.Pieces.{judged}
 use Rattle.wire.specs.Messages.{ordered, bytes_of, message_bytes, message_at, message_fault}
 use Rattle.wire.proofs.Fronts.{judged_ok, placed_ok}
 

@@ -3,7 +3,8 @@ use Rattle.std.proofs.Common.{◌≡◌, ℕ, zero, suc, ◌-◌, ◌<◌, List,
 use Rattle.links.specs.declared.wire.ReadError.{ReadError}
 use Rattle.protocol.specs.Packet.{Segment, Packet}
 use Rattle.packets.specs.Packets.{with_segments, longer}
-use Rattle.wire.specs.Pieces.{read_as, placed, judged, ended}
+use Rattle.links.specs.Unread.{placed, ended}
+use Rattle.wire.specs.Pieces.{read_as, judged}
 use Rattle.wire.specs.Packets.{segment_at, segment_fault, segments_in}
 use Rattle.wire.proofs.Fronts.{piece_refused, piece_taken}
 

@@ -2,7 +2,7 @@
 use Rattle.std.specs.Prelude.{ℕ, cond, List, length, Ok, Result, ◌==◌, slice_index}
 use Rattle.links.specs.declared.fault.Fault.TheVariants.{UnknownKind, Truncated}
 use Rattle.links.specs.declared.wire.ReadError.{ReadError}
-use Rattle.wire.specs.Pieces.{refused}
+use Rattle.links.specs.Unread.{refused}
 use Rattle.wire.specs.declared.kind.Kind.{Kind}
 use Rattle.wire.specs.declared.kind.Kind.TheVariants.{Links, Packet, LinkDown, Switched}
 

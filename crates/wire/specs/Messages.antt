@@ -6,7 +6,8 @@ use Rattle.links.specs.declared.fault.Fault.TheVariants.{UnknownKind, Truncated,
 use Rattle.links.specs.declared.wire.ReadError.{ReadError}
 use Rattle.protocol.specs.Router.{Message, LinkDown, Switched}
 use Rattle.theory.specs.Network.{LinkId}
-use Rattle.wire.specs.Pieces.{Front, whole, judged, piece, ended}
+use Rattle.links.specs.Unread.{ended}
+use Rattle.wire.specs.Pieces.{Front, whole, judged, piece}
 
 abbrev pub ordered : Message → Message
 ordered (LinkDown l) = LinkDown (lower_first l)

@@ -5,7 +5,8 @@ use Rattle.links.specs.declared.fault.Fault.{Fault}
 use Rattle.links.specs.declared.fault.Fault.TheVariants.{UnknownKind, Truncated, NodeOutOfRange, TooManySenderSegments, SelfLink, TooManySegments}
 use Rattle.links.specs.declared.wire.ReadError.{ReadError}
 use Rattle.protocol.specs.Packet.{Segment, NodeSeg, LinkSeg, Packet}
-use Rattle.wire.specs.Pieces.{read_as, Front, whole, judged, piece, ended}
+use Rattle.links.specs.Unread.{ended}
+use Rattle.wire.specs.Pieces.{read_as, Front, whole, judged, piece}
 use Rattle.wire.specs.declared.origin.Origin.{Origin}
 use Rattle.wire.specs.declared.origin.Origin.TheVariants.{Sender, Neighbour}
 

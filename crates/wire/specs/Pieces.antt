@@ -1,21 +1,14 @@
 -- Reading piece by piece, up to the first fault, and writing. Assumes nothing.
-use Rattle.std.specs.Prelude.{◌≡◌, ℕ, cond, List, ◌++◌, length, drop, Some, None, Ok, Err, Option, Result, ◌==◌, nat_lt}
+use Rattle.std.specs.Prelude.{◌≡◌, ℕ, cond, List, ◌++◌, length, drop, Some, None, Ok, Err, Option, Result, nat_lt}
 use Rattle.std.specs.Result.{result_map_both}
 use Rattle.links.specs.declared.fault.Fault.{Fault}
-use Rattle.links.specs.declared.fault.Fault.TheVariants.{Memory, Truncated, TrailingBytes}
+use Rattle.links.specs.declared.fault.Fault.TheVariants.{Memory, Truncated}
 use Rattle.links.specs.declared.wire.ReadError.{ReadError}
+use Rattle.links.specs.Unread.{refused}
 
 -- what a reader answers, its value in other words
 abbrev pub read_as : {A B : Type 0} → (A → B) → Result A ReadError → Result B ReadError
 read_as f r = result_map_both f (λ e. e) r
-
--- by a fault of the piece that begins at the byte i
-abbrev pub refused : {A : Type 0} → Fault → ℕ → Result A ReadError
-refused f i = Err (record { fault = f; at = i })
-
--- a fault of the piece that begins at the byte i
-abbrev pub placed : {A : Type 0} → ℕ → Result A Fault → Result A ReadError
-placed i r = result_map_both (λ x. x) (λ f. record { fault = f; at = i }) r
 
 -- what stands in front, and the bytes after it, or why it is refused
 abbrev pub Front : Type 0 → Type 0
@@ -38,10 +31,6 @@ judged fault (Err f) = Err f
 abbrev pub piece : {A B : Type 0} → ℕ → Front A → (A → List ℕ → Result B ReadError) → Result B ReadError
 piece i (Ok p) more = more p.0 p.1
 piece i (Err f) more = refused f i
-
--- the end, which begins at the byte i: nothing is left over
-abbrev pub ended : {A : Type 0} → ℕ → List ℕ → A → Result A ReadError
-ended i bs x = cond (length bs == 0) (Ok x) (refused TrailingBytes i)
 
 -- what a writer leaves of the bytes that were there before: it puts others behind them, or nothing where memory is short
 abbrev pub Put : {A : Type 0} → Result A Fault → List ℕ → List ℕ → List ℕ → Type 0

@@ -1,8 +1,8 @@
 ghost use Rattle.std.specs.Prelude.{◌≡◌};
 ghost use Rattle.wire.specs.Kinds.{kind_in};
 
-use crate::unread::Unread;
 use links::fault::Fault;
+use links::unread::Unread;
 use links::wire::ReadError;
 
 // The first byte of each kind.

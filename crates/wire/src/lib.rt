@@ -7,4 +7,3 @@ pub mod origin;
 pub mod packet;
 mod pieces;
 mod segment;
-mod unread;

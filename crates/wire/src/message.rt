@@ -1,6 +1,6 @@
 // The bytes of a message: 3 and a link's two nodes, the lower one first; or 4, who has switched, the destination, and
 // the failed link's two nodes.
-ghost use Rattle.std.specs.Prelude.{◌≡◌, ℕ, ◌≤◌, length, IfOk, Ok};
+ghost use Rattle.std.specs.Prelude.{◌≡◌, ℕ, IfOk, Ok};
 ghost use Rattle.std.specs.Result.{result_map_both};
 ghost use Rattle.links.specs.Link.{ends};
 ghost use Rattle.messages.specs.Messages.{message_of};
@@ -9,18 +9,16 @@ ghost use Rattle.wire.specs.Messages.{MessageLawful, ordered, message_bytes, mes
 
 use crate::kind::{LINK_DOWN, SWITCHED};
 use crate::pieces::put;
-use crate::unread::Unread;
 use links::fault::Fault;
 use links::link::LinkId;
 use links::node::NodeId;
+use links::unread::Unread;
 use links::wire::ReadError;
 use messages::message::{Message, Switched};
-use std::cmp::Ordering;
 
 // The message in front, and the bytes after it.
 fn front(bytes: &[u8]) -> Result<(Message, &[u8]), Fault>
-    ensures value { result_map_both (λ p. (message_of p.0, p.1.now)) (λ f. f) result ≡ message_at bytes.now }
-    ensures shorter { IfOk result (λ p. length p.1.now ≤ length bytes.now) }
+    ensures { result_map_both (λ p. (message_of p.0, p.1.now)) (λ f. f) result ≡ message_at bytes.now }
 {
     match bytes {
         [LINK_DOWN, a, b, rest @ ..] => Ok((Message::LinkDown(link(*a, *b)), rest)),
@@ -50,13 +48,11 @@ fn link(a: u8, b: u8) -> LinkId
 fn check_link(nodes: u8, link: LinkId) -> Result<(), Fault>
     ensures { result ≡ unless (link_fault nodes (ends link)) tt }
 {
-    link.a.check(nodes)?;
-    link.b.check(nodes)?;
-    match link.a.cmp(&link.b) {
-        Ordering::Less => Ok(()),
-        Ordering::Equal => Err(Fault::SelfLink),
-        Ordering::Greater => Err(Fault::HigherFirst),
+    link.check(nodes)?;
+    if link.b < link.a {
+        return Err(Fault::HigherFirst);
     }
+    Ok(())
 }
 
 fn check(nodes: u8, message: Message) -> Result<(), Fault>
@@ -74,8 +70,7 @@ fn check(nodes: u8, message: Message) -> Result<(), Fault>
 
 // The message in front, if it has no fault. The steps are those of `next_segment`; a trait for the two would be longer.
 fn next_message(bytes: &[u8], nodes: u8) -> Result<(Message, &[u8]), Fault>
-    ensures value { result_map_both (λ p. (message_of p.0, p.1.now)) (λ f. f) result ≡ judged (message_fault nodes) (message_at bytes.now) }
-    ensures shorter { IfOk result (λ p. length p.1.now ≤ length bytes.now) }
+    ensures { result_map_both (λ p. (message_of p.0, p.1.now)) (λ f. f) result ≡ judged (message_fault nodes) (message_at bytes.now) }
 {
     let (message, rest) = front(bytes)?;
     check(nodes, message)?;

@@ -10,9 +10,9 @@ use crate::kind::PACKET;
 use crate::origin::Origin;
 use crate::pieces::put;
 use crate::segment::{next_segment, write_segments};
-use crate::unread::Unread;
 use links::fault::Fault;
 use links::node::NodeId;
+use links::unread::Unread;
 use links::wire::{ReadError, number};
 use packets::packet::Packet;
 
@@ -64,7 +64,8 @@ pub fn read_packet(bytes: &[u8], nodes: u8, origin: Origin) -> Result<Packet, Re
     read_segments(unread.after(rest), nodes, *count, packet)
 }
 
-// Where memory is short, some bytes may stand there.
+// Where memory is short, some bytes may stand there. It stands beside `write_packet`, since that takes them off again after a
+// `?` here.
 fn begin(packet: &Packet, out: &mut Vec<u8>) -> Result<(), Fault>
     ensures { Begun result out.old.items (packet_bytes (packet_of packet.now)) out.new.items }
 {

@@ -1,5 +1,5 @@
 // The bytes of a segment: 0 and a node, or 1 and the two nodes of a link.
-ghost use Rattle.std.specs.Prelude.{◌≡◌, ◌≤◌, length, IfOk};
+ghost use Rattle.std.specs.Prelude.{◌≡◌};
 ghost use Rattle.std.specs.List.{flat_map};
 ghost use Rattle.std.specs.Result.{result_map_both};
 ghost use Rattle.packets.specs.Segments.{segment_of};
@@ -8,6 +8,7 @@ ghost use Rattle.wire.specs.Packets.{segment_bytes, segment_at, segment_fault};
 
 use crate::pieces::put;
 use links::fault::Fault;
+use links::link::LinkId;
 use links::node::NodeId;
 use packets::segment::Segment;
 
@@ -18,8 +19,7 @@ const LINK: u8 = 1;
 
 // The segment in front, and the bytes after it.
 fn front(bytes: &[u8]) -> Result<(Segment, &[u8]), Fault>
-    ensures value { result_map_both (λ p. (segment_of p.0, p.1.now)) (λ f. f) result ≡ segment_at bytes.now }
-    ensures shorter { IfOk result (λ p. length p.1.now ≤ length bytes.now) }
+    ensures { result_map_both (λ p. (segment_of p.0, p.1.now)) (λ f. f) result ≡ segment_at bytes.now }
 {
     match bytes {
         [NODE, node, rest @ ..] => Ok((Segment::Node(NodeId(*node)), rest)),
@@ -41,21 +41,13 @@ fn check(nodes: u8, segment: Segment) -> Result<(), Fault>
 {
     match segment {
         Segment::Node(node) => node.check(nodes),
-        Segment::Link { from, to } => {
-            from.check(nodes)?;
-            to.check(nodes)?;
-            if from == to {
-                return Err(Fault::SelfLink);
-            }
-            Ok(())
-        }
+        Segment::Link { from, to } => LinkId { a: from, b: to }.check(nodes),
     }
 }
 
 // The segment in front, if it has no fault.
 pub(crate) fn next_segment(bytes: &[u8], nodes: u8) -> Result<(Segment, &[u8]), Fault>
-    ensures value { result_map_both (λ p. (segment_of p.0, p.1.now)) (λ f. f) result ≡ judged (segment_fault nodes) (segment_at bytes.now) }
-    ensures shorter { IfOk result (λ p. length p.1.now ≤ length bytes.now) }
+    ensures { result_map_both (λ p. (segment_of p.0, p.1.now)) (λ f. f) result ≡ judged (segment_fault nodes) (segment_at bytes.now) }
 {
     let (segment, rest) = front(bytes)?;
     check(nodes, segment)?;

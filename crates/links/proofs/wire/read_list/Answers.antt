@@ -8,4 +8,4 @@ returns c =
     let bs = c.args.bytes.now in
     let l : 4 ≤ length bs = search rules in
     let f : c.check_header.result ≡ passed = search rules in
-    read_whole bs _ c.number.result _ (λ i. (c.type_inv.bytes i).fits) l (sym c.check_header.ensures ∙ f) c.number.ensures (take_rest bs 4) c.in_ok-links.ensures
+    read_whole bs _ c.number.result _ _ (λ i. (c.type_inv.bytes i).fits) l (sym c.check_header.ensures ∙ f) c.number.ensures (c.after.ensures.rest ∙ take_rest bs 4) (c.after.ensures.size ∙ c.new-unread.ensures.size) c.in_ok-links.ensures

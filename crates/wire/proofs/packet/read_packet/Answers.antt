@@ -5,7 +5,8 @@ use Rattle.links.specs.declared.wire.ReadError.{ReadError}
 use Rattle.links.proofs.RoundTrip.{Bytes}
 use Rattle.packets.specs.declared.packet.Packet.{Packet}
 use Rattle.packets.specs.Packets.{packet_of, bare}
-use Rattle.wire.specs.Pieces.{read_as, placed}
+use Rattle.links.specs.Unread.{placed}
+use Rattle.wire.specs.Pieces.{read_as}
 use Rattle.wire.specs.Packets.{PacketLawful, packet_bytes, segments_in, header_of, header_fault, packet_in}
 use Rattle.wire.specs.declared.origin.Origin.{Origin}
 use Rattle.wire.proofs.PacketBytes.{packet_spelled}

@@ -1,13 +1,19 @@
-ghost use Rattle.std.specs.Prelude.{◌≡◌, ◌-◌, ◌≤◌, length};
-ghost use Rattle.wire.specs.Pieces.{placed, ended};
+ghost use Rattle.std.specs.Prelude.{◌≡◌, ◌-◌, length};
+ghost use Rattle.links.specs.Unread.{placed, ended};
 
-use super::Unread;
-use links::fault::Fault;
-use links::wire::ReadError;
+use crate::fault::Fault;
+use crate::wire::ReadError;
+
+// The bytes that are not read yet: the last ones of `size`. Were they more than that, they would begin at byte 0.
+#[derive(Clone, Copy)]
+pub struct Unread<'a> {
+    pub bytes: &'a [u8],
+    size: usize,
+}
 
 impl<'a> Unread<'a> {
     // All of them.
-    pub(crate) fn new(bytes: &'a [u8]) -> Unread<'a>
+    pub fn new(bytes: &'a [u8]) -> Unread<'a>
         ensures all { result.bytes.now ≡ bytes.now }
         ensures size { result.size ≡ length bytes.now }
     {
@@ -17,10 +23,8 @@ impl<'a> Unread<'a> {
         }
     }
 
-    // What is left behind the next piece. That it's no longer than these bytes each reader promises of its own: a type of
-    // what it leaves would have to hold both.
-    pub(crate) fn after(self, rest: &'a [u8]) -> Unread<'a>
-        requires { length rest.now ≤ length self.bytes.now }
+    // What is left behind the next piece.
+    pub fn after(self, rest: &'a [u8]) -> Unread<'a>
         ensures rest { result.bytes.now ≡ rest.now }
         ensures size { result.size ≡ self.entry.size }
     {
@@ -31,15 +35,15 @@ impl<'a> Unread<'a> {
     }
 
     // The next piece, or its fault at the byte where it begins.
-    pub(crate) fn piece<T>(self, found: Result<T, Fault>) -> Result<T, ReadError>
+    pub fn piece<T>(self, found: Result<T, Fault>) -> Result<T, ReadError>
         ensures { result ≡ placed (self.entry.size - length self.entry.bytes.now) found }
     {
-        let at = self.size - self.bytes.len();
+        let at = self.size.saturating_sub(self.bytes.len());
         found.map_err(|fault| ReadError { fault, at })
     }
 
     // The end: nothing is left over.
-    pub(crate) fn end(self) -> Result<(), ReadError>
+    pub fn end(self) -> Result<(), ReadError>
         ensures { result ≡ ended (self.entry.size - length self.entry.bytes.now) self.entry.bytes.now tt }
     {
         if !self.bytes.is_empty() {
