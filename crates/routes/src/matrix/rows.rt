@@ -14,11 +14,11 @@ impl CostMatrix {
         ensures next { HopRows (matrix_network self.now) self.now.nodes hops.new }
     {
         for d in 0..self.nodes {
-            let d = NodeId(d);
+            let end = NodeId(d);
             // a row is lent on as a part of the lent table
-            let row = &mut dist[row_of(d, self.nodes)];
-            self.settle(d, row);
-            self.next_hops(row, &mut hops[row_of(d, self.nodes)]);
+            let row = &mut dist[row_of(end, self.nodes)];
+            self.settle(end, row);
+            self.next_hops(row, &mut hops[row_of(end, self.nodes)]);
         }
     }
 }

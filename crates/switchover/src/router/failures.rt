@@ -19,7 +19,7 @@ impl Router {
         Ok(())
     }
 
-    // What it is to it that the link has failed: one that it has taken out is no news.
+    // What it is to it that the link has failed. For one that it has taken out it's a repeat.
     pub(super) fn weigh(&self, link: LinkId) -> Result<Report, Fault>
         ensures { Weighed (ends link) (model self.now) result }
     {
