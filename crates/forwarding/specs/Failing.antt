@@ -1,10 +1,12 @@
 -- A router comes to know that a link of its list is down. Assumes nothing.
-use Rattle.std.specs.Prelude.{◌≡◌, ℕ, cond, [], Some, None, Option, Result, MatchResult}
+use Rattle.std.specs.Prelude.{◌≡◌, ℕ, cond, [], Some, None, Ok, Err, Option, Result, MatchResult}
 use Rattle.links.specs.Fault.{number}
 use Rattle.links.specs.declared.fault.Fault.{Fault}
 use Rattle.theory.specs.Network.{LinkId}
 use Rattle.protocol.specs.Router.{Router, Failure, NoFailure, Down, Reply, Refused, Stays, Goes, has_link, same_link}
 use Rattle.forwarding.specs.Switching.{knowing}
+use Rattle.forwarding.specs.declared.report.Report.{Report}
+use Rattle.forwarding.specs.declared.report.Report.TheVariants.{News, Repeated}
 
 abbrev pub fail_in : LinkId → Router → Failure → Reply
 fail_in l s NoFailure = Goes (knowing l s) []
@@ -23,6 +25,12 @@ after s (Goes t _) = Some t
 abbrev pub refused_by : Option ℕ → Reply
 refused_by None = Refused 0
 refused_by (Some k) = Refused k
+
+-- what the failure is to it: news, a repeat, or refused by a fault's number
+abbrev pub Weighed : LinkId → Router → Result Report Fault → Type 0
+Weighed l s (Ok News) = failing l s ≡ Goes (knowing l s) []
+Weighed l s (Ok Repeated) = failing l s ≡ Stays
+Weighed l s (Err f) = failing l s ≡ refused_by (number f)
 
 -- accepted, or refused by a fault's number, and then nothing changes
 abbrev pub FailAsked : LinkId → Router → Router → {A : Type 0} → Result A Fault → Type 0

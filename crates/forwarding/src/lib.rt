@@ -3,4 +3,5 @@
 
 pub mod forwarder;
 pub mod outcome;
+pub mod report;
 pub mod tables;

@@ -13,7 +13,7 @@ use crate::repair::{Entry, Repair};
 use links::fault::Fault;
 use links::link::LinkId;
 use links::node::NodeId;
-use routes::matrix::CostMatrix;
+use routes::matrix::{CostMatrix, row_of};
 use routes::routes::Routes;
 
 // Lays up the repairs of s for its link to f: the row of f in its table, which has 64 rows of 64.
@@ -45,6 +45,15 @@ struct Protected<'a> {
     f: NodeId,
 }
 
+// The network that is left when it fails, and the distances to d there.
+#[derive(Drop)]
+struct Left<'a> {
+    rest: &'a CostMatrix,
+    d: NodeId,
+    dist: &'a [u32],
+    ghost filled: { Filled (matrix_network rest.now) d.0 dist.now },
+}
+
 impl<'a> Protected<'a> {
     // Is there such a link, and has a slice of that length as many entries as it should?
     fn check(&self, len: usize, full: usize) -> Result<(), Fault>
@@ -65,9 +74,7 @@ impl<'a> Protected<'a> {
         ensures { LinkLaid (link_network self.now) self.now.s.0 self.now.f.0 table.old table.new }
     {
         // a row is lent on as a part of the lent table
-        let n = self.routes.nodes() as usize;
-        let at = self.f.0 as usize * 64;
-        self.fill_row(&mut table[at..at + n]);
+        self.fill_row(&mut table[row_of(self.f, self.routes.nodes())]);
     }
 
     fn fill_row(&self, row: &mut [Entry])
@@ -124,16 +131,15 @@ impl<'a> Protected<'a> {
         let mut room = [0u32; 64];
         let dist = &mut room[0..rest.nodes() as usize];
         rest.distances(d, dist).ok()?;
-        self.along(rest, d, dist, self.s)
+        self.along(&Left { rest, d, dist }, self.s)
     }
 
-    // Along the path by the next hops of rest from w to d: the last link whose first node s reaches by another neighbour.
-    fn along(&self, rest: &CostMatrix, d: NodeId, dist: &[u32], w: NodeId) -> Option<Repair>
-        requires { Filled (matrix_network rest.now) d.0 dist.now }
-        ensures { repair_of result ≡ last_reached (link_network self.now) self.now.s.0 self.now.f.0 w.0 (path (matrix_network rest.now) d.0 w.0) }
+    // Along the path that is left from w to d: the last link whose first node s reaches by another neighbour.
+    fn along(&self, left: &Left, w: NodeId) -> Option<Repair>
+        ensures { repair_of result ≡ last_reached (link_network self.now) self.now.s.0 self.now.f.0 w.0 (path (matrix_network left.now.rest.now) left.now.d.0 w.0) }
     {
-        let q = rest.next_hop(w, dist)?;
-        if let Some(later) = self.along(rest, d, dist, q) {
+        let q = left.rest.next_hop(w, left.dist)?;
+        if let Some(later) = self.along(left, q) {
             return Some(later);
         }
         if self.sends(w) {

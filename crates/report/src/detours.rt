@@ -37,7 +37,8 @@ impl fmt::Display for Detour {
     }
 }
 
-// For each destination the end of a link that sends over it, and what it has laid up. Where neither sends, it's the second.
+// For each destination the end of a link that sends over it, and what it has laid up. Where neither sends, it's the second,
+// and so at the places from n on.
 pub fn detours(routes: &Routes, link: LinkId) -> Result<[Detour; 64], Fault>
     ensures { DetoursOf (routes_network routes.now) (ends link) result }
 {

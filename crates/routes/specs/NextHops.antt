@@ -4,6 +4,7 @@ use Rattle.std.specs.Option.{option_map}
 use Rattle.links.specs.declared.node.NodeId.{NodeId}
 use Rattle.theory.specs.Network.{Network}
 use Rattle.theory.specs.NextHop.{next_hop}
+use Rattle.routes.specs.Distances.{Filled}
 
 -- a next hop by its number
 abbrev pub hop_of : Option NodeId → Option ℕ
@@ -13,9 +14,13 @@ hop_of h = option_map (λ v. v.0) h
 abbrev pub numbers : List NodeId → List ℕ
 numbers ns = map (λ v. v.0) ns
 
--- l has the next hops of the first k nodes for d
-abbrev pub HopRow : Network → ℕ → ℕ → List (Option NodeId) → Type 0
-HopRow z d k l = (a : ℕ) → a < k → hop_of (slice_index_or l a None) ≡ next_hop z d a
+-- h is the next hop of a for d, whatever d the distances go to
+abbrev pub HopBy : Network → List ℕ → ℕ → Option NodeId → Type 0
+HopBy z dist a h = (d : ℕ) → Filled z d dist → hop_of h ≡ next_hop z d a
+
+-- so l has those of the first k nodes
+abbrev pub HopsBy : Network → List ℕ → ℕ → List (Option NodeId) → Type 0
+HopsBy z dist k l = (a : ℕ) → a < k → HopBy z dist a (slice_index_or l a None)
 
 -- in the first k rows of 64, row d has the next hop of each node for d
 abbrev pub HopRows : Network → ℕ → List (Option NodeId) → Type 0

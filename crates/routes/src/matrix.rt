@@ -3,6 +3,7 @@ ghost use Rattle.links.specs.Links.{IsNodeCount};
 ghost use Rattle.routes.specs.Costs.{put, Symmetric, Loopless, Light};
 
 use links::node::NodeId;
+use std::ops::Range;
 
 pub mod build;
 pub mod distances;
@@ -23,11 +24,20 @@ pub struct CostMatrix {
     ghost light: { Light nodes costs },
 }
 
-// Where the entry of b stands in row a, in rows of 64.
+// Where the entry of b stands in row a, in rows of 64. There is no type for such a table: tables are lent as slices, a form
+// that was asked for.
 pub fn cell(a: NodeId, b: NodeId) -> usize
     ensures { result ≡ a.0 * 64 + b.0 }
 {
     a.0 as usize * 64 + b.0 as usize
+}
+
+// Where row a stands, of as many entries as there are nodes.
+pub fn row_of(a: NodeId, nodes: u8) -> Range<usize>
+    ensures { result ≡ record { start = a.0 * 64; end = a.0 * 64 + nodes } }
+{
+    let start = cell(a, NodeId(0));
+    start..start + nodes as usize
 }
 
 // Writes what the link between a and b costs, both ways.

@@ -6,8 +6,8 @@ use Rattle.theory.specs.NextHop.{uses}
 use Rattle.protocol.specs.Router.{Router, Failure, NoFailure, Down, Reply, Refused, Stays, Goes}
 use Rattle.protocol.specs.Hearing.{learn, tell, hear_down}
 use Rattle.switchover.specs.Replies.{RefusedBy}
-use Rattle.switchover.specs.declared.report.Report.{Report}
-use Rattle.switchover.specs.declared.report.Report.TheVariants.{News, Repeated}
+use Rattle.forwarding.specs.declared.report.Report.{Report}
+use Rattle.forwarding.specs.declared.report.Report.TheVariants.{News, Repeated}
 
 abbrev pub uses_in : Router → ℕ → Failure → Bool
 uses_in s d NoFailure = false

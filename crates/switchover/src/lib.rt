@@ -2,5 +2,4 @@
 #![tactic(auto)]
 
 mod node_set;
-mod report;
 pub mod router;

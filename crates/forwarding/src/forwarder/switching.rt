@@ -3,11 +3,12 @@ ghost use Rattle.theory.specs.Network.{without};
 ghost use Rattle.links.specs.Link.{ends};
 ghost use Rattle.protocol.specs.Router.{idle};
 ghost use Rattle.protocol.specs.Switching.{all_below, mark};
-ghost use Rattle.forwarding.specs.Failing.{FailAsked};
+ghost use Rattle.forwarding.specs.Failing.{FailAsked, Weighed};
 ghost use Rattle.forwarding.specs.Model.{model};
 ghost use Rattle.forwarding.specs.Switching.{knowing, switched_for};
 
 use super::{Forwarder, KnownFailure};
+use crate::report::Report;
 use crate::tables::{none_switched, own_hops};
 use links::fault::Fault;
 use links::link::LinkId;
@@ -18,13 +19,21 @@ impl Forwarder {
     pub fn fail(&mut self, link: LinkId) -> Result<(), Fault>
         ensures { FailAsked (ends link) (model self.old) (model self.new) result }
     {
+        match self.weigh(link)? {
+            Report::News => self.learn(link),
+            Report::Repeated => {}
+        }
+        Ok(())
+    }
+
+    // What it is to it that the link has failed.
+    pub fn weigh(&self, link: LinkId) -> Result<Report, Fault>
+        ensures { Weighed (ends link) (model self.now) result }
+    {
         self.link_cost(link.a, link.b).ok_or(Fault::NoSuchLink)?;
         match self.failure() {
-            None => {
-                self.learn(link);
-                Ok(())
-            }
-            Some(known) if known.is_same(link) => Ok(()),
+            None => Ok(Report::News),
+            Some(known) if known.is_same(link) => Ok(Report::Repeated),
             Some(_) => Err(Fault::SecondFailure),
         }
     }

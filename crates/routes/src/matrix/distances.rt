@@ -4,7 +4,7 @@ ghost use Rattle.routes.specs.Dijkstra.{Numbered, Below, IsNearest, Relaxes, rel
 ghost use Rattle.routes.specs.Distances.{Asked, Filled};
 ghost use Rattle.routes.specs.Matrix.{matrix_network};
 
-use super::CostMatrix;
+use super::{CostMatrix, row_of};
 use links::fault::Fault;
 use links::node::NodeId;
 use std::array;
@@ -37,20 +37,19 @@ impl CostMatrix {
         let mut unsettled = numbered();
         let mut left = self.nodes as usize;
         while let Some(i) = nearest(&unsettled[0..left], dist) {
-            let u = unsettled[i].0 as usize;
+            let u = unsettled[i];
             left -= 1;
             unsettled[i] = unsettled[left];
-            relax(self.row(u), dist[u], dist);
+            relax(self.row(u), dist[u.0 as usize], dist);
         }
     }
 
     // The costs of the links of u, node by node.
-    pub(super) fn row(&self, u: usize) -> &[u16]
-        requires { u < self.now.nodes }
-        ensures { Row (matrix_network self.now) u result.now }
+    pub(super) fn row(&self, u: NodeId) -> &[u16]
+        requires { u.0 < self.now.nodes }
+        ensures { Row (matrix_network self.now) u.0 result.now }
     {
-        let n = self.nodes as usize;
-        &self.costs[u * 64..u * 64 + n]
+        &self.costs[row_of(u, self.nodes)]
     }
 }
 

@@ -1,7 +1,7 @@
 ghost use Rattle.std.specs.Prelude.{◌≡◌, ℕ, ◌<◌, ◌≤◌, length, None, ◌≢◌};
 ghost use Rattle.routes.specs.Distances.{Filled};
 ghost use Rattle.routes.specs.Matrix.{matrix_network};
-ghost use Rattle.routes.specs.NextHops.{hop_of, HopRow, IsFirst};
+ghost use Rattle.routes.specs.NextHops.{hop_of, HopBy, HopsBy, IsFirst};
 ghost use Rattle.theory.specs.NextHop.{next_hop};
 
 use super::CostMatrix;
@@ -22,7 +22,7 @@ impl CostMatrix {
     // The next hop of each node for d, where dist has the distances to d.
     pub(super) fn next_hops(&self, dist: &[u32], hops: &mut [Option<NodeId>])
         requires { (length dist.now ≡ self.now.nodes) × (length hops.old ≡ self.now.nodes) }
-        ensures { (d : ℕ) → Filled (matrix_network self.now) d dist.now → HopRow (matrix_network self.now) d self.now.nodes hops.new }
+        ensures { HopsBy (matrix_network self.now) dist.now self.now.nodes hops.new }
     {
         for (a, hop) in hops.iter_mut().enumerate() {
             *hop = self.hop_of(NodeId(a as u8), dist);
@@ -31,10 +31,9 @@ impl CostMatrix {
 
     fn hop_of(&self, a: NodeId, dist: &[u32]) -> Option<NodeId>
         requires { (a.0 < self.now.nodes) × (length dist.now ≡ self.now.nodes) }
-        ensures { (d : ℕ) → Filled (matrix_network self.now) d dist.now → hop_of result ≡ next_hop (matrix_network self.now) d a.0 }
+        ensures { HopBy (matrix_network self.now) dist.now a.0 result }
     {
-        let at = a.0 as usize;
-        first_near(self.row(at), dist[at], dist)
+        first_near(self.row(a), dist[a.0 as usize], dist)
     }
 }
 

@@ -3,7 +3,7 @@ ghost use Rattle.routes.specs.Distances.{DistanceRows};
 ghost use Rattle.routes.specs.Matrix.{matrix_network};
 ghost use Rattle.routes.specs.NextHops.{HopRows};
 
-use super::CostMatrix;
+use super::{CostMatrix, row_of};
 use links::node::NodeId;
 
 impl CostMatrix {
@@ -13,13 +13,12 @@ impl CostMatrix {
         ensures near { DistanceRows (matrix_network self.now) self.now.nodes dist.new }
         ensures next { HopRows (matrix_network self.now) self.now.nodes hops.new }
     {
-        let n = self.nodes as usize;
         for d in 0..self.nodes {
+            let end = NodeId(d);
             // a row is lent on as a part of the lent table
-            let at = d as usize * 64;
-            let row = &mut dist[at..at + n];
-            self.settle(NodeId(d), row);
-            self.next_hops(row, &mut hops[at..at + n]);
+            let row = &mut dist[row_of(end, self.nodes)];
+            self.settle(end, row);
+            self.next_hops(row, &mut hops[row_of(end, self.nodes)]);
         }
     }
 }

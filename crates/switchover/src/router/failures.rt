@@ -6,7 +6,7 @@ ghost use Rattle.switchover.specs.Failures.{Judged, Weighed};
 ghost use Rattle.switchover.specs.Model.{model};
 
 use super::Router;
-use crate::report::Report;
+use forwarding::report::Report;
 use links::fault::Fault;
 use links::link::LinkId;
 
@@ -19,21 +19,13 @@ impl Router {
         Ok(())
     }
 
-    // What it is to it that the link has failed.
+    // What it is to it that the link has failed. For one that it has taken out it's a repeat.
     pub(super) fn weigh(&self, link: LinkId) -> Result<Report, Fault>
         ensures { Weighed (ends link) (model self.now) result }
     {
-        if !self.has_link(link) {
-            return if self.has_removed(link) {
-                Ok(Report::Repeated)
-            } else {
-                Err(Fault::NoSuchLink)
-            };
-        }
-        match self.failure() {
-            None => Ok(Report::News),
-            Some(known) if known.is_same(link) => Ok(Report::Repeated),
-            Some(_) => Err(Fault::SecondFailure),
+        match self.forwarder.weigh(link) {
+            Err(Fault::NoSuchLink) if self.has_removed(link) => Ok(Report::Repeated),
+            weighed => weighed,
         }
     }
 

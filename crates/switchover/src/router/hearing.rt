@@ -7,7 +7,7 @@ ghost use Rattle.switchover.specs.Model.{model};
 ghost use Rattle.switchover.specs.Replies.{Answered};
 
 use super::Router;
-use crate::report::Report;
+use forwarding::report::Report;
 use links::fault::Fault;
 use links::link::LinkId;
 use links::node::NodeId;

@@ -1,4 +1,4 @@
-use Rattle.std.proofs.Common.{◌≤◌, rules, arith}
+use Rattle.std.proofs.Common.{◌≤◌, arith}
 use Rattle.routes.proofs.Costs.{matrix_lawful}
 use Rattle.forwarding.specs.Model.{model}
 use Rattle.forwarding.proofs.KnownDown.{entry_outside}

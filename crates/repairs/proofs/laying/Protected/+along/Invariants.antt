@@ -3,4 +3,4 @@ use Rattle.routes.specs.Matrix.{matrix_network}
 use Rattle.repairs.proofs.laying.Protected.+along.Given as goal
 
 abbrev pub decreases-along : goal.decreases-along
-decreases-along l = hops (matrix_network l.rest.now) l.d.0 l.w.0
+decreases-along l = hops (matrix_network l.left.now.rest.now) l.left.now.d.0 l.w.0

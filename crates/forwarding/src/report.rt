@@ -1,6 +1,6 @@
 // What a report that a link has failed is to a router. A bool would not say which is which.
 #[derive(Clone, Copy)]
-pub(crate) enum Report {
+pub enum Report {
     News,
     Repeated,
 }
