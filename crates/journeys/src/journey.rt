@@ -16,8 +16,8 @@ pub enum State {
     Dropped(Fault),
 }
 
-// A packet that is played: the nodes at which it has been, where it is last, and what it has spent, the costs of the links
-// that it went over.
+// A packet that is played: the nodes at which it has been, the last of which is where it is; what it has spent, the costs of
+// the links that it went over; and how it is.
 #[derive(Drop)]
 pub struct Journey {
     path: Vec<NodeId>,
