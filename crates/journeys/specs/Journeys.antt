@@ -1,5 +1,5 @@
 -- A packet that is played, in the protocol's words. Assumes nothing.
-use Rattle.std.specs.Prelude.{◌≡◌, ℕ, List, [], ◌∷◌, ◌++◌, Some, None, Ok, Err, vec_items, Option, Result}
+use Rattle.std.specs.Prelude.{◌≡◌, ℕ, ◌-◌, List, [], ◌∷◌, ◌++◌, length, Some, None, Ok, Err, vec_items, Option, Result, slice_index}
 use Rattle.links.specs.Fault.{number}
 use Rattle.links.specs.declared.fault.Fault.{Fault}
 use Rattle.links.specs.declared.fault.Fault.TheVariants.{Memory}
@@ -17,17 +17,21 @@ abbrev pub numbered : Option ℕ → ℕ
 numbered None = 0
 numbered (Some k) = k
 
-abbrev pub in_state : State → (at spent : ℕ) → Packet → protocol.Flight
-in_state UnderWay u c p = protocol.UnderWay u c p
-in_state Delivered u c p = protocol.Delivered u c
-in_state (Dropped f) u c p = protocol.Dropped u c (numbered (number f))
-
-abbrev pub flight_of : Journey → protocol.Flight
-flight_of j = in_state j.state j.at.0 j.spent (packet_of j.packet)
+abbrev pub in_state : State → (at spent : ℕ) → protocol.Flight
+in_state (UnderWay p) u c = protocol.UnderWay u c (packet_of p)
+in_state Delivered u c = protocol.Delivered u c
+in_state (Dropped f) u c = protocol.Dropped u c (numbered (number f))
 
 -- the nodes at which it has been
 abbrev pub path_of : Journey → List ℕ
 path_of j = numbers (vec_items j.path)
+
+-- where it is: the last of them
+abbrev pub place_of : Journey → ℕ
+place_of j = slice_index (path_of j) (length (path_of j) - 1)
+
+abbrev pub flight_of : Journey → protocol.Flight
+flight_of j = in_state j.state (place_of j) j.spent
 
 -- it begins at u
 abbrev pub Begun : ℕ → Packet → Result Journey Fault → Type 0

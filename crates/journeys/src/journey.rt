@@ -1,5 +1,5 @@
-ghost use Rattle.std.specs.Prelude.{◌+◌, ◌*◌, ◌≤◌};
-ghost use Rattle.packets.specs.Packets.{packet_of};
+ghost use Rattle.std.specs.Prelude.{◌+◌, ◌*◌, ◌<◌, ◌≤◌, length};
+ghost use Rattle.journeys.specs.Bounds.{hops_left};
 
 use links::fault::Fault;
 use links::node::NodeId;
@@ -11,18 +11,18 @@ pub mod parts;
 // Is a packet under way, or how has it ended?
 #[derive(Clone, Copy, PartialEq, Eq, Debug)]
 pub enum State {
-    UnderWay,
+    UnderWay(Packet),
     Delivered,
     Dropped(Fault),
 }
 
-// A packet where it is, the nodes at which it has been, and what it has spent: the costs of the links that it went over.
+// A packet that is played: the nodes at which it has been, the last of which is where it is; what it has spent, the costs of
+// the links that it went over; and how it is.
 #[derive(Drop)]
 pub struct Journey {
     path: Vec<NodeId>,
-    at: NodeId,
     spent: u32,
-    packet: Packet,
     state: State,
-    ghost bounded: { spent + (packet_of packet).hop_limit * 65535 ≤ 4294836225 },
+    ghost begun: { 0 < length path.items },
+    ghost bounded: { spent + hops_left state * 65535 ≤ 4294836225 },
 }

@@ -11,7 +11,7 @@ use Rattle.protocol.specs.Router as protocol
 use Rattle.protocol.specs.System.{System, Flight, NoPacket, UnderWay, Delivered, Dropped, step, moved, put_on, Put, Hop}
 use Rattle.switchover.specs.Model.{model}
 use Rattle.switchover.specs.declared.router.Router.{Router}
-use Rattle.journeys.specs.Journeys.{flight_of, path_of, node_in, next_node, Moved}
+use Rattle.journeys.specs.Journeys.{flight_of, path_of, place_of, node_in, next_node, Moved}
 use Rattle.network.specs.Model.{system, system_of, router_at, flight_at, path_at, path_of_packet}
 use Rattle.network.specs.Playing.{goes_to, HopAsked}
 use Rattle.network.specs.declared.arrival.Arrival.{Arrival}
@@ -48,19 +48,19 @@ there f s (Delivered u c) e = refl
 there f s (Dropped u c k) e = refl
 
 -- the router r handles the packet j, which becomes i
-pub one_moves : (rs : List Router) (ms : List Sent) (cs : List Arrival) (js : List Journey) (q : ℕ) (r : Router) (j i : Journey) → q < length js → j ≡ get_or js q j → j.at.0 < length rs → r ≡ get_or rs j.at.0 r →
+pub one_moves : (rs : List Router) (ms : List Sent) (cs : List Arrival) (js : List Journey) (q : ℕ) (r : Router) (j i : Journey) → q < length js → j ≡ get_or js q j → place_of j < length rs → r ≡ get_or rs (place_of j) r →
     flight_of i ≡ moved (λ u. model r) (flight_of j) → system_of rs ms cs (set js q i) ≡ step (Hop q) (system_of rs ms cs js)
 one_moves rs ms cs js q r j i l e h g m =
     let x : flight_at js q ≡ flight_of j = read_at flight_of js q j NoPacket l e in
-    let y : router_at rs (node_in (flight_of j)) ≡ model r = ap (router_at rs) (node_in_lem j) ∙ read_at model rs j.at.0 r _ h g in
+    let y : router_at rs (node_in (flight_of j)) ≡ model r = ap (router_at rs) (node_in_lem j) ∙ read_at model rs (place_of j) r _ h g in
     let w : flight_of i ≡ moved (router_at rs) (flight_at js q) = m ∙ (there (router_at rs) (model r) (flight_of j) y ∙ ap (moved (router_at rs)) (sym x)) in
     ap (with_flights (system_of rs ms cs js)) (fun_ext (set_at flight_of js q i (moved (router_at rs) (flight_at js q)) NoPacket l w))
 
-pub one_path : (rs : List Router) (ms : List Sent) (cs : List Arrival) (js : List Journey) (q : ℕ) (r : Router) (j i : Journey) → q < length js → j ≡ get_or js q j → j.at.0 < length rs → r ≡ get_or rs j.at.0 r →
+pub one_path : (rs : List Router) (ms : List Sent) (cs : List Arrival) (js : List Journey) (q : ℕ) (r : Router) (j i : Journey) → q < length js → j ≡ get_or js q j → place_of j < length rs → r ≡ get_or rs (place_of j) r →
     path_of i ≡ path_of j ++ next_node (model r) (flight_of j) → path_at (set js q i) q ≡ path_at js q ++ goes_to (system_of rs ms cs js) q
 one_path rs ms cs js q r j i l e h g m =
     let x : flight_at js q ≡ flight_of j = read_at flight_of js q j NoPacket l e in
-    let y : router_at rs (node_in (flight_of j)) ≡ model r = ap (router_at rs) (node_in_lem j) ∙ read_at model rs j.at.0 r _ h g in
+    let y : router_at rs (node_in (flight_of j)) ≡ model r = ap (router_at rs) (node_in_lem j) ∙ read_at model rs (place_of j) r _ h g in
     let w : goes_to (system_of rs ms cs js) q ≡ next_node (model r) (flight_of j) = ap (λ z. next_node (router_at rs (node_in z)) z) x ∙ ap (λ s. next_node s (flight_of j)) y in
     set_at path_of js q i (path_of i) [] l refl q ∙ (cond-true (eqb q q) (path_of i) _ (eq-eqb q q refl) ∙ (m ∙ ap₂ (λ a b. a ++ b) (sym (read_at path_of js q j [] l e)) (sym w)))
 
@@ -90,11 +90,11 @@ HandledAs rs ms cs js q i (Err f) = (f ≡ Memory) × (system_of rs ms cs (set j
 
 -- a packet that the router where it is has handled
 pub handled : (rs : List Router) (ms : List Sent) (cs : List Arrival) (js : List Journey) (q : ℕ) (r : Router) (j i : Journey) {A : Type 0} (o : Result A Fault) →
-    q < length js → j ≡ get_or js q j → j.at.0 < length rs → r ≡ get_or rs j.at.0 r → Moved (model r) j i o → HandledAs rs ms cs js q i o
+    q < length js → j ≡ get_or js q j → place_of j < length rs → r ≡ get_or rs (place_of j) r → Moved (model r) j i o → HandledAs rs ms cs js q i o
 handled rs ms cs js q r j i (Ok x) l e h g m = (one_moves rs ms cs js q r j i l e h g m.0, one_path rs ms cs js q r j i l e h g m.1, set_others js q i l)
 handled rs ms cs js q r j i (Err f) l e h g m = (m.0, same_flights rs ms cs js q j i l e m.1, same_paths js q j i l e m.2)
 
-pub handled_inside : (n : ℕ) (r : Router) (j i : Journey) {A : Type 0} (o : Result A Fault) → (model r).links.n ≡ n → j.at.0 < n → Moved (model r) j i o → i.at.0 < n
+pub handled_inside : (n : ℕ) (r : Router) (j i : Journey) {A : Type 0} (o : Result A Fault) → (model r).links.n ≡ n → place_of j < n → Moved (model r) j i o → place_of i < n
 handled_inside n r j i (Ok x) e h m =
     subst (λ k. k < n) (ap node_in (sym m.0) ∙ node_in_lem i) (moved_inside n r (flight_of j) e (subst (λ k. k < n) (sym (node_in_lem j)) h))
 handled_inside n r j i (Err f) e h m = subst (λ k. k < n) (sym (node_in_lem j) ∙ (ap node_in (sym m.1) ∙ node_in_lem i)) h

@@ -7,8 +7,7 @@ use Rattle.protocol.specs.System.{Flight, NoPacket, UnderWay, Delivered, Dropped
 use Rattle.protocol.proofs.Sending.{forward_sends}
 use Rattle.switchover.specs.Model.{model}
 use Rattle.switchover.specs.declared.router.Router.{Router}
-use Rattle.packets.specs.Packets.{packet_of}
-use Rattle.journeys.specs.Journeys.{flight_of, in_state, node_in}
+use Rattle.journeys.specs.Journeys.{flight_of, in_state, node_in, place_of}
 use Rattle.network.specs.Placed.{placed_from, inside_of}
 use Rattle.journeys.specs.declared.journey.Journey.{Journey}
 use Rattle.journeys.specs.declared.journey.State.{State}
@@ -41,34 +40,34 @@ placed_set n k (s ∷ rs) (suc u) r h m l =
     let q = and_parts (eqb (model s).links.n n) _ p.1 in
     and_from _ _ p.0 (and_from _ _ q.0 (placed_set n (suc k) rs u r q.1 (m ∙ omega arith) l))
 
-pub inside_at : (n : ℕ) (js : List Journey) (q : ℕ) (j : Journey) → inside_of n js ≡ true → q < length js → j ≡ get_or js q j → j.at.0 < n
+pub inside_at : (n : ℕ) (js : List Journey) (q : ℕ) (j : Journey) → inside_of n js ≡ true → q < length js → j ≡ get_or js q j → place_of j < n
 unfolding inside_of
 inside_at n [] q j h l e = absurd (omega arith)
-inside_at n (i ∷ js) zero j h l e = subst (λ (x : Journey). x.at.0 < n) (sym e) (ltb-true _ _ (and_parts (ltb i.at.0 n) _ h).0)
-inside_at n (i ∷ js) (suc q) j h l e = inside_at n js q j (and_parts (ltb i.at.0 n) _ h).1 (omega arith) e
+inside_at n (i ∷ js) zero j h l e = subst (λ (x : Journey). place_of x < n) (sym e) (ltb-true _ _ (and_parts (ltb (place_of i) n) _ h).0)
+inside_at n (i ∷ js) (suc q) j h l e = inside_at n js q j (and_parts (ltb (place_of i) n) _ h).1 (omega arith) e
 
-pub inside_set : (n : ℕ) (js : List Journey) (q : ℕ) (j : Journey) → inside_of n js ≡ true → j.at.0 < n → inside_of n (set js q j) ≡ true
+pub inside_set : (n : ℕ) (js : List Journey) (q : ℕ) (j : Journey) → inside_of n js ≡ true → place_of j < n → inside_of n (set js q j) ≡ true
 unfolding inside_of
 inside_set n [] q j h l = refl
-inside_set n (i ∷ js) zero j h l = and_from _ _ (lt-ltb _ _ l) (and_parts (ltb i.at.0 n) _ h).1
-inside_set n (i ∷ js) (suc q) j h l = let p = and_parts (ltb i.at.0 n) _ h in and_from _ _ p.0 (inside_set n js q j p.1 l)
+inside_set n (i ∷ js) zero j h l = and_from _ _ (lt-ltb _ _ l) (and_parts (ltb (place_of i) n) _ h).1
+inside_set n (i ∷ js) (suc q) j h l = let p = and_parts (ltb (place_of i) n) _ h in and_from _ _ p.0 (inside_set n js q j p.1 l)
 
-pub inside_push : (n : ℕ) (js : List Journey) (j : Journey) → inside_of n js ≡ true → j.at.0 < n → inside_of n (js ++ j ∷ []) ≡ true
+pub inside_push : (n : ℕ) (js : List Journey) (j : Journey) → inside_of n js ≡ true → place_of j < n → inside_of n (js ++ j ∷ []) ≡ true
 unfolding inside_of
 inside_push n [] j h l = and_from _ _ (lt-ltb _ _ l) refl
-inside_push n (i ∷ js) j h l = let p = and_parts (ltb i.at.0 n) _ h in and_from _ _ p.0 (inside_push n js j p.1 l)
+inside_push n (i ∷ js) j h l = let p = and_parts (ltb (place_of i) n) _ h in and_from _ _ p.0 (inside_push n js j p.1 l)
 
 -- whether there was room for it or not
-pub inside_pushed : (n : ℕ) (js new : List Journey) (j : Journey) (b : Bool) → new ≡ cond b (js ++ j ∷ []) js → inside_of n js ≡ true → j.at.0 < n → inside_of n new ≡ true
+pub inside_pushed : (n : ℕ) (js new : List Journey) (j : Journey) (b : Bool) → new ≡ cond b (js ++ j ∷ []) js → inside_of n js ≡ true → place_of j < n → inside_of n new ≡ true
 inside_pushed n js new j true e h l = ap (inside_of n) e ∙ inside_push n js j h l
 inside_pushed n js new j false e h l = ap (inside_of n) e ∙ h
 
 -- a packet's node, in each state
-pub node_in_lem : (j : Journey) → node_in (flight_of j) ≡ j.at.0
+pub node_in_lem : (j : Journey) → node_in (flight_of j) ≡ place_of j
 node_in_lem j = by j.state
   where
-    by : (s : State) → node_in (in_state s j.at.0 j.spent (packet_of j.packet)) ≡ j.at.0
-    by state.UnderWay = refl
+    by : (s : State) → node_in (in_state s (place_of j) j.spent) ≡ place_of j
+    by (state.UnderWay p) = refl
     by state.Delivered = refl
     by (state.Dropped f) = refl
 

@@ -2,6 +2,7 @@
 use Rattle.std.specs.Prelude.{ℕ, suc, Bool, true, ◌&&◌, List, [], ◌∷◌, length, ◌==◌, nat_lt}
 use Rattle.switchover.specs.Model.{model}
 use Rattle.switchover.specs.declared.router.Router.{Router}
+use Rattle.journeys.specs.Journeys.{place_of}
 use Rattle.journeys.specs.declared.journey.Journey.{Journey}
 
 -- from the node k on, each router is at its node, and its list has n nodes
@@ -15,7 +16,7 @@ placed rs = placed_from (length rs) 0 rs
 -- each packet is at a node below n
 unfoldable pub inside_of : ℕ → List Journey → Bool
 inside_of n [] = true
-inside_of n (j ∷ js) = nat_lt j.at.0 n && inside_of n js
+inside_of n (j ∷ js) = nat_lt (place_of j) n && inside_of n js
 
 abbrev pub inside : List Router → List Journey → Bool
 inside rs js = inside_of (length rs) js

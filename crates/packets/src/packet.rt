@@ -7,7 +7,7 @@ pub mod parts;
 pub mod strip;
 
 // A packet: its destination, how many hops it may still go, and up to five segments.
-#[derive(Clone, Copy)]
+#[derive(Clone, Copy, PartialEq, Eq, Debug)]
 pub struct Packet {
     destination: NodeId,
     hop_limit: u16,

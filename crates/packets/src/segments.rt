@@ -4,10 +4,11 @@ use crate::segment::Segment;
 
 pub mod build;
 pub mod changes;
+pub mod equality;
 pub mod parts;
 
 // Up to N segments: the first `count` of an array, as forwarding has no heap. A count fits in a byte.
-#[derive(Clone, Copy)]
+#[derive(Clone, Copy, Debug)]
 pub struct Segments<const N: usize> {
     pub(crate) all: [Segment; N],
     pub(crate) count: u8,

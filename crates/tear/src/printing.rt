@@ -60,7 +60,7 @@ impl fmt::Display for Words<'_> {
     }
 }
 
-// A space, and the number of a fault.
+// A space, and the number of a fault; by hand, as a fault that has no number prints nothing, which a derive can't tell.
 #[derive(Clone, Copy)]
 struct FaultNumber(Fault);
 
@@ -120,7 +120,7 @@ impl fmt::Display for Packet<'_> {
         let path = Path(journey);
         let cost = journey.spent();
         match journey.state() {
-            State::UnderWay => write!(f, "packet {number} at {}", journey.at()),
+            State::UnderWay(_) => write!(f, "packet {number} at {}", journey.at()),
             State::Delivered => write!(f, "packet {number}:{path} arrived cost {cost}"),
             State::Dropped(fault) => {
                 let fault = FaultNumber(fault);

@@ -2,7 +2,7 @@
 use crate::bad_line::{BadLine, RefusedLink};
 use crate::printing::{Number, Packet, RefusedWord, Routers, Waits, Words};
 use crate::script::Command;
-use journeys::journey::State;
+use journeys::journey::Journey;
 use links::fault::Fault;
 use links::link::LinkId;
 use links::node::NodeId;
@@ -163,9 +163,8 @@ impl Stage {
     ) -> Result<(), BadLine>
         requires { F.IsAlwaysCallable handling }
     {
-        match self.network.journey(q) {
-            Some(journey) if matches!(journey.state(), State::UnderWay) => {}
-            _ => return Err(BadLine::Packet(Number(q))),
+        if !self.network.journey(q).is_some_and(Journey::is_under_way) {
+            return Err(BadLine::Packet(Number(q)));
         }
         handling(&mut self.network)?;
         Ok(self.print_packet(q)?)

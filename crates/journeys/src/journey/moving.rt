@@ -25,10 +25,8 @@ impl Journey {
         path.push(order.start)?;
         Ok(Journey {
             path,
-            at: order.start,
             spent: 0,
-            packet: Packet::new(order.destination, order.segments),
-            state: State::UnderWay,
+            state: State::UnderWay(Packet::new(order.destination, order.segments)),
         })
     }
 
@@ -36,17 +34,17 @@ impl Journey {
     pub fn go_on(&mut self, router: &Router) -> Result<(), Fault>
         ensures { Moved (model router.now) self.old self.new result }
     {
-        let State::UnderWay = self.state else {
+        let State::UnderWay(packet) = self.state else {
             return Ok(());
         };
-        match router.forward(self.packet) {
+        match router.forward(packet) {
             Outcome::Delivered => self.state = State::Delivered,
             Outcome::Dropped(fault) => self.state = State::Dropped(fault),
             Outcome::Sent { to, packet } => {
+                let cost = cost_of(router, self.at(), to);
                 self.path.push(to)?;
-                self.spent += cost_of(router, self.at, to) as u32;
-                self.packet = packet;
-                self.at = to;
+                self.spent += cost as u32;
+                self.state = State::UnderWay(packet);
             }
         }
         Ok(())
@@ -55,7 +53,7 @@ impl Journey {
     pub fn is_under_way(&self) -> bool
         ensures { result ≡ is_under_way (flight_of self.now) }
     {
-        self.state == State::UnderWay
+        matches!(self.state, State::UnderWay(_))
     }
 }
 

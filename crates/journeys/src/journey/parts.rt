@@ -1,7 +1,6 @@
 ghost use Rattle.std.specs.Prelude.{◌≡◌};
 ghost use Rattle.routes.specs.NextHops.{numbers};
 ghost use Rattle.journeys.specs.Journeys.{path_of, flight_of, in_state, node_in, spent_in};
-ghost use Rattle.packets.specs.Packets.{packet_of};
 
 use super::{Journey, State};
 use links::node::NodeId;
@@ -18,7 +17,7 @@ impl Journey {
     pub fn at(&self) -> NodeId
         ensures { result.0 ≡ node_in (flight_of self.now) }
     {
-        self.at
+        self.path[self.path.len() - 1]
     }
 
     // The costs of the links that it went over, in all.
@@ -29,7 +28,7 @@ impl Journey {
     }
 
     pub fn state(&self) -> State
-        ensures { in_state result (node_in (flight_of self.now)) (spent_in (flight_of self.now)) (packet_of self.now.packet) ≡ flight_of self.now }
+        ensures { in_state result (node_in (flight_of self.now)) (spent_in (flight_of self.now)) ≡ flight_of self.now }
     {
         self.state
     }

@@ -1,5 +1,5 @@
 use Rattle.std.proofs.Common.{◌≡◌, ◌<◌, List, length, vec_items, sym, refl, ap, ◌∙◌, arith}
-use Rattle.journeys.specs.Journeys.{node_in}
+use Rattle.journeys.specs.Journeys.{node_in, place_of}
 use Rattle.network.specs.Model.{path_at, system_of}
 use Rattle.journeys.specs.declared.journey.Journey.{Journey}
 use Rattle.network.proofs.Hops.{put_system, put_path, put_others}
@@ -10,8 +10,8 @@ pub invariant_of-self : goal.invariant_of-self
 invariant_of-self c =
     let net = c.args.self.now in
     let j = c.in_ok-journey.journey in
-    let e : j.at.0 ≡ c.args.order.start.0 = sym (node_in_lem j) ∙ ap node_in c.in_ok-journey.ensures.0 in
-    let l : j.at.0 < length (vec_items net.routers) = omega (arith, c.len.ensures, net.routers.ok) in
+    let e : place_of j ≡ c.args.order.start.0 = sym (node_in_lem j) ∙ ap node_in c.in_ok-journey.ensures.0 in
+    let l : place_of j < length (vec_items net.routers) = omega (arith, c.len.ensures, net.routers.ok) in
     record { in_place = net.in_place; in_reach = inside_pushed (length (vec_items net.routers)) (vec_items net.journeys) (vec_items c.push.new.self) j _ c.push.ensures.items net.in_reach l }
 
 pub returns : goal.returns
