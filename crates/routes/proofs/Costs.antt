@@ -24,7 +24,7 @@ cell_inj a b x y p q e = (omega arith, omega arith)
 
 -- in the first n rows and columns, and elsewhere
 
-cost_in_lem : (n : ℕ) (m : List ℕ) (a b : ℕ) → a < n → b < n → cost_at n m a b ≡ get_or m (a * 64 + b) 0
+pub cost_in_lem : (n : ℕ) (m : List ℕ) (a b : ℕ) → a < n → b < n → cost_at n m a b ≡ get_or m (a * 64 + b) 0
 cost_in_lem n m a b p q = cond-true (ltb a n && ltb b n) (get_or m (a * 64 + b) 0) 0 (and_from (ltb a n) (ltb b n) (lt-ltb a n p) (lt-ltb b n q))
 
 cost_within : (n : ℕ) (m : List ℕ) (a b : ℕ) → 0 < cost_at n m a b → (a < n) × (b < n)

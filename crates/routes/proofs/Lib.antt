@@ -1,6 +1,12 @@
 pub mod Costs
+pub mod Linked
+pub mod LeftNetwork
 pub mod Unsettled
 pub mod Settled
+pub mod Relaxing
+pub mod TouchedNodes
+pub mod Starting
+pub mod HopsWithout
 pub mod Hops
 pub mod Rows
 pub mod Steps

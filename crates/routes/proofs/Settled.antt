@@ -1,24 +1,35 @@
 -- Dijkstra's algorithm: settled nodes keep their distances, and in the end each is the least. Assumes nothing.
-use Rattle.std.proofs.Common.{◌≡◌, ℕ, suc, ◌+◌, ◌-◌, ◌*◌, ◌<◌, ◌≤◌, Bool, true, false, ◌&&◌, eqb, ltb, ◌⊎◌, List, [], ◌∷◌, length, get_or, take, set, Some, None, sym, refl, ap, ◌∙◌, subst, inl, inr, arith, length-set}
+use Rattle.std.proofs.Common.{◌≡◌, ℕ, suc, ◌+◌, ◌<◌, ◌≤◌, Bool, true, false, ◌&&◌, eqb, ltb, ◌⊎◌, List, [], ◌∷◌, length, get_or, take, set, Some, None, sym, refl, ap, ◌∙◌, subst, inl, inr, arith, length-set, Option}
 use Rattle.std.proofs.lemmas.Bool.{both_ways, ltb-true, ltb-false, lt-ltb, eq-eqb, ne_eqb, cases_lt, and_parts, cases_eq, cases_Bool, and_cases, cond-true, cond-false, cond_both}
-use Rattle.std.proofs.lemmas.List.{length-take-le, get_or-set_same, get_or-set_other, get_or-take}
+use Rattle.std.proofs.lemmas.List.{length-take-le, get_or-set_same, get_or-set_other, get_or-take, get_or_default}
 use Rattle.routes.specs.Distances.{decoded, Filled}
-use Rattle.routes.specs.Dijkstra.{relaxed, number_at, Numbered, NoneNearer, Nearest}
-use Rattle.routes.proofs.Unsettled.{unsettled_at, at_unsettled, unsettled_some, all_unsettled, Unsettled, gone, same_unsettled, unsettled_less}
+use Rattle.routes.specs.Dijkstra.{relaxed, Relaxes, NoneNearer, TakenAt}
+use Rattle.routes.specs.NodeLists.{number_at, Numbered, BelowFirst, among}
+use Rattle.routes.specs.Settling.{Partly, Unsettled, Standing}
+use Rattle.routes.specs.declared.node_list.NodeList.{NodeList}
+use Rattle.routes.proofs.Unsettled.{among_at, among_some, all_unsettled, gone, same_unsettled, unsettled_less}
 use Rattle.theory.specs.Distance.{IsPath, path_cost, distance, Found}
 use Rattle.theory.specs.Network.{Network, Lawful, Limited}
-use Rattle.theory.proofs.DistanceLaws.{distance_none}
-use Rattle.theory.proofs.Distances.{count, count_most, count_lt, distance_dist}
+use Rattle.theory.proofs.Distances.{distance_dist}
+use Rattle.theory.proofs.HopPaths.{bounded}
+use Rattle.theory.proofs.Paths.{sound}
 use Rattle.links.specs.declared.node.NodeId.{NodeId}
 
--- o says which nodes are free, and f how far each is as yet
-pub record Partly (z : Network) (d : ℕ) (o : ℕ → Bool) (f : ℕ → ℕ) : Type 0 where
-  pub start : f d ≡ 0
-  pub found : (v : ℕ) → v < z.n → f v < 4294967295 → Found z d v (f v)
-  pub small : (v : ℕ) → v < z.n → f v < 4294967295 → f v + 65535 * count z.n o ≤ 65535 * z.n
-  pub known : (u : ℕ) → u < z.n → o u ≡ false → f u < 4294967295
-  pub links : (u e : ℕ) → o u ≡ false → 0 < z.cost u e → f e ≤ z.cost u e + f u
-  pub order : (u v : ℕ) → u < z.n → v < z.n → o u ≡ false → o v ≡ true → f u ≤ f v
+-- no path from a free node costs less than the nearest of them is far
+pub free_least : (z : Network) → Lawful z → (d : ℕ) (o : ℕ → Bool) (f : ℕ → ℕ) → Partly z d o f → (m : ℕ) → ((k : ℕ) → k < z.n → o k ≡ true → m ≤ f k) →
+    (v : ℕ) (ws : List ℕ) → v < z.n → o v ≡ true → IsPath z d v ws → m ≤ path_cost z v ws
+unfolding path_cost
+free_least z g d o f h m least v [] l t w =
+    let q : f v ≡ 0 = ap f w ∙ h.start in
+    omega (arith, least v l t)
+free_least z g d o f h m least v (y ∷ ys) l t w =
+    let i = (g.within v y w.0).1 in
+    elim (cases_Bool (o y)) [
+      | inl p ↦ omega (arith, free_least z g d o f h m least y ys i p w.1)
+      | inr p ↦
+          let b = g.symmetric v y in
+          omega (arith, least v l t, h.links y v p (omega (arith, w.0)), h.right y i p ys w.1)
+    ]
 
 -- what relaxing one link does
 pub record Relaxed (k here there now : ℕ) : Type 0 where
@@ -26,7 +37,7 @@ pub record Relaxed (k here there now : ℕ) : Type 0 where
   pub over : 0 < k → now ≤ k + here
   pub one : (now ≡ there) ⊎ ((0 < k) × (now ≡ k + here))
 
-relaxed_is : (k here there : ℕ) → Relaxed k here there (relaxed k here there)
+pub relaxed_is : (k here there : ℕ) → Relaxed k here there (relaxed k here there)
 relaxed_is k here there =
     let b = ltb 0 k && ltb (here + k) there in
     cond_both b (here + k) there (Relaxed k here there)
@@ -53,9 +64,6 @@ pub record Less (u : ℕ) (o p : ℕ → Bool) : Type 0 where
 was_free : (u : ℕ) (o p : ℕ → Bool) → Less u o p → (k : ℕ) → p k ≡ true → o k ≡ true
 was_free u o p w k t = elim (cases_eq k u) [ inl e ↦ absurd (both_ways (p u) w.here (ap p (sym e) ∙ t)) | inr h ↦ sym (w.others k h) ∙ t ]
 
-free_falls : (z : Network) (o p : ℕ → Bool) (u : ℕ) → u < z.n → o u ≡ true → Less u o p → count z.n p < count z.n o
-free_falls z o p u l t w = count_lt z.n p o (was_free u o p w) u l w.here t
-
 -- a settled node, before or now
 settled_cases : (u : ℕ) (o p : ℕ → Bool) → Less u o p → (k : ℕ) → p k ≡ false → (k ≡ u) ⊎ (o k ≡ false)
 settled_cases u o p w k t = elim (cases_eq k u) [ inl e ↦ inl e | inr h ↦ inr (sym (w.others k h) ∙ t) ]
@@ -71,16 +79,24 @@ pub record Turn (z : Network) (d : ℕ) (o p : ℕ → Bool) (f g : ℕ → ℕ)
   pub relaxes : (e : ℕ) → e < z.n → Relaxed (z.cost u e) (f u) (f e) (g e)
 
 module _ (z : Network) (d : ℕ) (o p : ℕ → Bool) (f g : ℕ → ℕ) (u : ℕ) (t : Turn z d o p f g u) where
-  low : (v : ℕ) → v < z.n → o v ≡ true → f u ≤ g v
-  low v l x = elim (t.relaxes v l).one [ inl e ↦ omega (arith, t.picks.least v l x) | inr y ↦ omega arith ]
+  path_of_u : Found z d u (f u)
+  path_of_u = t.before.found u t.picks.within t.picks.some
+
+  settles : (ws : List ℕ) → IsPath z d u ws → f u ≤ path_cost z u ws
+  settles ws w = free_least z t.lawful d o f t.before (f u) t.picks.least u ws t.picks.within t.picks.free w
 
   -- what is settled stays as it is
   kept : (v : ℕ) → v < z.n → p v ≡ false → g v ≡ f v
+  unfolding path_cost
   kept v l x = elim (t.relaxes v l).one [
     | inl e ↦ e
     | inr y ↦ elim (settled_cases u o p t.less v x) [
       | inl e ↦ let k : z.cost u v ≡ 0 = ap (λ i. z.cost u i) e ∙ t.lawful.loopless u in absurd (omega (arith, y.0))
-      | inr q ↦ omega (arith, t.before.order v u l t.picks.within q t.picks.free, (t.relaxes v l).less, y.1)
+      | inr q ↦
+          let b = t.lawful.symmetric u v in
+          let w = path_of_u in
+          let k = t.before.right v l q (u ∷ w.nodes) (omega (arith, y.0), w.path) in
+          omega (arith, k, w.cost, (t.relaxes v l).less, y.1)
     ]
   ]
 
@@ -89,18 +105,10 @@ module _ (z : Network) (d : ℕ) (o p : ℕ → Bool) (f g : ℕ → ℕ) (u : �
   found_on v l h = elim (t.relaxes v l).one [
     | inl e ↦ subst (λ c. Found z d v c) (sym e) (t.before.found v l (omega arith))
     | inr y ↦
-        let w = t.before.found u t.picks.within t.picks.some in
+        let w = path_of_u in
         let b = t.lawful.symmetric u v in
         record { nodes = u ∷ w.nodes; path = (omega (arith, y.0), w.path); cost = omega (arith, w.cost, y.1) }
   ]
-
-  small_on : (v : ℕ) → v < z.n → g v < 4294967295 → g v + 65535 * count z.n p ≤ 65535 * z.n
-  small_on v l h =
-      let q = free_falls z o p u t.picks.within t.picks.free t.less in
-      elim (t.relaxes v l).one [
-        | inl e ↦ omega (arith, t.before.small v l (omega arith))
-        | inr y ↦ omega (arith, t.before.small u t.picks.within t.picks.some, t.limited.light u v, y.1)
-      ]
 
   links_on : (x e : ℕ) → p x ≡ false → 0 < z.cost x e → g e ≤ z.cost x e + g x
   links_on x e q r =
@@ -114,91 +122,96 @@ module _ (z : Network) (d : ℕ) (o p : ℕ → Bool) (f g : ℕ → ℕ) (u : �
         | inr y ↦ omega (arith, t.before.links x e y r, (t.relaxes e l.1).less)
       ]
 
-  order_on : (x v : ℕ) → x < z.n → v < z.n → p x ≡ false → p v ≡ true → g x ≤ g v
-  order_on x v l m q r =
-      let k = kept x l q in
-      let j = low v m (was_free u o p t.less v r) in
-      elim (settled_cases u o p t.less x q) [ inl y ↦ let c : f x ≡ f u = ap f y in omega arith | inr y ↦ omega (arith, t.before.order x u l t.picks.within y t.picks.free) ]
+  right_on : (v : ℕ) → v < z.n → p v ≡ false → (ws : List ℕ) → IsPath z d v ws → g v ≤ path_cost z v ws
+  right_on v l q ws w = elim (settled_cases u o p t.less v q) [
+    | inl y ↦ subst (λ i. g i ≤ path_cost z i ws) (sym y) (let c = (t.relaxes u t.picks.within).less in omega (arith, settles ws (subst (λ i. IsPath z d i ws) y w)))
+    | inr y ↦ omega (arith, t.before.right v l y ws w, (t.relaxes v l).less)
+  ]
 
   partly_more : Partly z d p g
   partly_more = record {
     start = omega (arith, (t.relaxes d t.aim).less, t.before.start);
+    top = λ v l. omega (arith, (t.relaxes v l).less, t.before.top v l);
     found = found_on;
-    small = small_on;
-    known = λ x l q. elim (settled_cases u o p t.less x q) [
-      | inl y ↦ let c : f x ≡ f u = ap f y in omega (arith, (t.relaxes x l).less, t.picks.some)
-      | inr y ↦ omega (arith, (t.relaxes x l).less, t.before.known x l y)
-    ];
+    right = right_on;
     links = links_on;
-    order = order_on;
   }
 
 -- before the first turn: all are free
 partly_none : (z : Network) → Lawful z → (d : ℕ) (o : ℕ → Bool) (f : ℕ → ℕ) → ((k : ℕ) → k < z.n → o k ≡ true) → f d ≡ 0 → ((k : ℕ) → k < z.n → (k ≡ d → ⊥) → f k ≡ 4294967295) → Partly z d o f
 unfolding path_cost
 partly_none z g d o f all s n =
-    let here : (v : ℕ) → v < z.n → f v < 4294967295 → v ≡ d = λ v m h. elim (cases_eq v d) [ inl e ↦ e | inr x ↦ absurd (omega (arith, n v m x)) ] in
     record {
       start = s;
-      found = λ v m h. let e = here v m h in let q : f v ≡ 0 = ap f e ∙ s in record { nodes = []; path = e; cost = sym q };
-      small = λ v m h. let q : f v ≡ 0 = ap f (here v m h) ∙ s in omega (arith, count_most z.n o);
-      known = λ u m h. absurd (both_ways (o u) h (all u m));
+      top = λ v m. elim (cases_eq v d) [ inl e ↦ let q : f v ≡ 0 = ap f e ∙ s in omega arith | inr x ↦ omega (arith, n v m x) ];
+      found = λ v m h. elim (cases_eq v d) [
+        | inl e ↦ let q : f v ≡ 0 = ap f e ∙ s in record { nodes = []; path = e; cost = sym q }
+        | inr x ↦ absurd (omega (arith, n v m x))
+      ];
+      right = λ u m h. absurd (both_ways (o u) h (all u m));
       links = λ u e h r. absurd (both_ways (o u) h (all u (g.within u e r).0));
-      order = λ u v m k h r. absurd (both_ways (o u) h (all u m));
     }
 
 -- after the last one: no free node has a distance
-module _ (z : Network) (g : Lawful z) (s : Limited z) (d : ℕ) (o : ℕ → Bool) (f : ℕ → ℕ) (h : Partly z d o f) (none : (k : ℕ) → k < z.n → o k ≡ true → 4294967295 ≤ f k) where
-  reached : (v : ℕ) (ws : List ℕ) → v < z.n → IsPath z d v ws → (o v ≡ false) × (f v ≤ path_cost z v ws)
-  unfolding path_cost
-  reached v [] l w =
-      let q : f v ≡ 0 = ap f w ∙ h.start in
-      (elim (cases_Bool (o v)) [ inl t ↦ absurd (omega (arith, none v l t)) | inr t ↦ t ], omega arith)
-  reached v (y ∷ ys) l w =
-      let m = (g.within v y w.0).1 in
-      let i = reached y ys m w.1 in
-      let b = g.symmetric v y in
-      let r = h.links y v i.0 (omega (arith, w.0)) in
-      let k = h.small y m (h.known y m i.0) in
-      (elim (cases_Bool (o v)) [ inl t ↦ absurd (omega (arith, none v l t, s.light y v, s.few)) | inr t ↦ t ], omega (arith, i.1))
+partly_all : (z : Network) → Lawful z → Limited z → (d : ℕ) (o : ℕ → Bool) (f : ℕ → ℕ) → Partly z d o f → ((k : ℕ) → k < z.n → o k ≡ true → 4294967295 ≤ f k) →
+    (a : ℕ) → a < z.n → decoded (f a) ≡ distance z d a
+partly_all z g s d o f h none a l = elim (cases_lt (f a) 4294967295) [
+  | inl x ↦
+      cond-false (eqb (f a) 4294967295) None (Some (f a)) (ne_eqb (f a) 4294967295 (λ e. omega arith)) ∙
+      sym (distance_dist z g d a (f a) (record { found = h.found a l x; least = λ ws w. least ws w }))
+  | inr x ↦
+      cond-true (eqb (f a) 4294967295) None (Some (f a)) (eq-eqb (f a) 4294967295 (omega (arith, h.top a l))) ∙ sym (go x (distance z d a) refl)
+]
+  where
+    least : (ws : List ℕ) → IsPath z d a ws → f a ≤ path_cost z a ws
+    least ws w = elim (cases_Bool (o a)) [
+      | inl t ↦ omega (arith, free_least z g d o f h 4294967295 none a ws l t w, h.top a l)
+      | inr t ↦ h.right a l t ws w
+    ]
 
-  partly_all : (a : ℕ) → a < z.n → f a ≤ 4294967295 → decoded (f a) ≡ distance z d a
-  partly_all a l top = elim (cases_lt (f a) 4294967295) [
-    | inl x ↦
-        cond-false (eqb (f a) 4294967295) None (Some (f a)) (ne_eqb (f a) 4294967295 (λ e. omega arith)) ∙
-        sym (distance_dist z g d a (f a) (record { found = h.found a l x; least = λ us u. (reached a us l u).1 }))
-    | inr x ↦
-        cond-true (eqb (f a) 4294967295) None (Some (f a)) (eq-eqb (f a) 4294967295 (omega arith)) ∙
-        sym (distance_none z g d a (λ ws w. omega (arith, h.known a l (reached a ws l w).0)))
-  ]
+    go : 4294967295 ≤ f a → (x : Option ℕ) → distance z d a ≡ x → distance z d a ≡ None
+    go x None e = e
+    go x (Some c) e =
+        let w = sound z.n z d a c e in
+        absurd (omega (arith, least w.nodes w.path, w.cost, bounded z g s d a c e))
+
+-- what is left of nodes below n are such nodes
+pub taken_below : (n : ℕ) (old new : NodeList) (dist : List ℕ) (u : NodeId) → TakenAt old new dist u → BelowFirst n old.nodes old.count → BelowFirst n new.nodes new.count
+taken_below n old new dist u t b i p =
+    let v = get_or old.nodes new.count u in
+    let x : t.at < old.count = omega (arith, t.nearest.within, length-take-le old.count old.nodes t.few) in
+    let e : number_at new.nodes i ≡ number_at (set old.nodes t.at v) i = ap (λ ns. number_at ns i) t.nodes in
+    elim (cases_eq i t.at) [
+      | inl y ↦
+          let here = ap (λ (k : NodeId). k.0) (ap (λ j. get_or (set old.nodes t.at v) j (record { 0 = 0 })) y ∙ (get_or-set_same old.nodes t.at v (record { 0 = 0 }) (omega (arith, t.few)) ∙ get_or_default old.nodes new.count u (record { 0 = 0 }) (omega (arith, t.few, t.fewer)))) in
+          omega (arith, e, here, b new.count (omega (arith, t.fewer)))
+      | inr y ↦
+          let there = ap (λ (k : NodeId). k.0) (get_or-set_other old.nodes t.at i v (record { 0 = 0 }) y) in
+          omega (arith, e, there, b i (omega (arith, t.fewer)))
+    ]
 
 -- the same of what stands in memory
-
-abbrev dist_at : List ℕ → ℕ → ℕ
-dist_at l k = get_or l k 0
-
-pub record Standing (z : Network) (d : ℕ) (ns : List NodeId) (k : ℕ) (l : List ℕ) : Type 0 where
-  pub unsettled : Unsettled z.n ns k
-  pub size : length l ≡ z.n
-  pub aim : d < z.n
-  pub top : (v : ℕ) → v < z.n → get_or l v 0 ≤ 4294967295
-  pub part : Partly z d (unsettled_at ns k) (dist_at l)
-
 module _ (z : Network) (g : Lawful z) (s : Limited z) (d : ℕ) where
-  pub stands_none : (ns : List NodeId) (l : List ℕ) → length ns ≡ 64 → Numbered ns 64 → d < z.n → length l ≡ z.n → ((v : ℕ) → v < length l → get_or l v 0 ≡ 4294967295) → Standing z d ns z.n (set l d 0)
-  stands_none ns l m q h n e =
-      let here : get_or (set l d 0) d 0 ≡ 0 = get_or-set_same l d 0 0 (omega arith) in
-      let others : (v : ℕ) → v < z.n → (v ≡ d → ⊥) → get_or (set l d 0) v 0 ≡ 4294967295 =
-      λ v p ne. get_or-set_other l d v 0 0 ne ∙ e v (omega arith) in
+  pub stands_none : (l : NodeList) (dist : List ℕ) → length l.nodes ≡ 64 → Numbered l.nodes 64 → l.count ≡ z.n → d < z.n → length dist ≡ z.n → ((v : ℕ) → v < length dist → get_or dist v 0 ≡ 4294967295) → Standing z d l (set dist d 0)
+  stands_none l dist m q k h n e =
+      let here : get_or (set dist d 0) d 0 ≡ 0 = get_or-set_same dist d 0 0 (omega arith) in
+      let others : (v : ℕ) → v < z.n → (v ≡ d → ⊥) → get_or (set dist d 0) v 0 ≡ 4294967295 =
+      λ v p ne. get_or-set_other dist d v 0 0 ne ∙ e v (omega arith) in
       record {
-        unsettled = all_unsettled z.n ns m q s.few;
-        size = length-set l d 0 ∙ n;
+        unsettled = subst (λ j. Unsettled z.n l.nodes j) (sym k) (all_unsettled z.n l.nodes m q s.few);
+        size = length-set dist d 0 ∙ n;
         aim = h;
-        top = λ v p. elim (cases_eq v d) [ inl x ↦ let q : get_or (set l d 0) v 0 ≡ 0 = ap (λ i. get_or (set l d 0) i 0) x ∙ here in omega arith | inr x ↦ omega (arith, others v p x) ];
-        part = partly_none z g d (unsettled_at ns z.n) (dist_at (set l d 0)) (λ v p. subst (λ i. unsettled_at ns z.n i ≡ true) (q v (omega (arith, s.few))) (at_unsettled ns z.n v p)) here others;
+        part = partly_none z g d (among l.nodes l.count) (λ v. get_or (set dist d 0) v 0)
+            (λ v p. subst (λ i. among l.nodes l.count i ≡ true) (q v (omega (arith, s.few))) (among_at l.nodes l.count v (omega arith))) here others;
       }
 
-  module _ (ns : List NodeId) (k : ℕ) (l : List ℕ) (i : Standing z d ns k l) where
+  module _ (l : NodeList) (dist : List ℕ) (i : Standing z d l dist) where
+    abbrev k : ℕ
+    k = l.count
+
+    abbrev ns : List NodeId
+    ns = l.nodes
+
     number_taken : (j : ℕ) → j < length (take k ns) → (j < k) × (number_at (take k ns) j ≡ number_at ns j)
     number_taken j h =
         let q : j < k = omega (arith, length-take-le k ns (omega (arith, i.unsettled.size, i.unsettled.few))) in
@@ -207,70 +220,68 @@ module _ (z : Network) (g : Lawful z) (s : Limited z) (d : ℕ) where
     still_length : (j : ℕ) → j < k → j < length (take k ns)
     still_length j h = omega (arith, length-take-le k ns (omega (arith, i.unsettled.size, i.unsettled.few)))
 
-    pub stands_all : NoneNearer (take k ns) l → Filled z d l
+    pub stands_all : NoneNearer (take k ns) dist → Filled z d dist
     stands_all n = record {
       size = i.size;
-      each = λ a h. partly_all z g s d (unsettled_at ns k) (dist_at l) i.part
+      each = λ a h. partly_all z g s d (among ns k) (λ v. get_or dist v 0) i.part
           (λ v p q.
-          let w = unsettled_some ns k v q in
+          let w = among_some ns k v q in
           let j = still_length w.0 w.1 in
           let e = (number_taken w.0 j).1 ∙ w.2 in
-          subst (λ x. 4294967295 ≤ get_or l x 0) e (n w.0 j))
-          a h (i.top a h);
+          subst (λ x. 4294967295 ≤ get_or dist x 0) e (n w.0 j))
+          a h;
     }
 
-    -- where a nearest node is found, some were left
-    pub some_left : (x : ℕ) → Nearest (take k ns) l x → k ≡ suc (k - 1)
-    some_left x n = omega (arith, (number_taken x n.within).0)
+    -- the nearest of them is settled, and the last one takes its place
+    module _ (more : NodeList) (u : NodeId) (t : TakenAt l more dist u) where
+      abbrev x : ℕ
+      x = t.at
 
-    -- the node at x is settled, and the last unsettled one takes its place
-    module _ (m : ℕ) (c : k ≡ suc m) (x : ℕ) (n : Nearest (take k ns) l x) where
-      abbrev u : ℕ
-      u = number_at ns x
+      at_x : (x < k) × (number_at (take k ns) x ≡ number_at ns x)
+      at_x = number_taken x t.nearest.within
 
-      abbrev fewer : List NodeId
-      fewer = set ns x (get_or ns m (record { 0 = 0 }))
+      is_u : number_at ns x ≡ u.0
+      is_u = sym (ap (λ (v : NodeId). v.0) (t.node ∙ get_or_default ns x u (record { 0 = 0 }) (omega (arith, at_x.0, i.unsettled.size, i.unsettled.few))))
 
-      at_x : (x < k) × (number_at (take k ns) x ≡ u)
-      at_x = number_taken x n.within
+      dist_x : get_or dist (number_at (take k ns) x) 0 ≡ get_or dist u.0 0
+      dist_x = ap (λ v. get_or dist v 0) (at_x.1 ∙ is_u)
 
-      dist_x : get_or l (number_at (take k ns) x) 0 ≡ get_or l u 0
-      dist_x = ap (λ v. get_or l v 0) at_x.1
-
-      picks_of : Picks z (unsettled_at ns k) (dist_at l) u
+      picks_of : Picks z (among ns k) (λ v. get_or dist v 0) u.0
       picks_of = record {
-        within = i.unsettled.within x at_x.0;
-        free = at_unsettled ns k x at_x.0;
-        some = omega (arith, n.some, dist_x);
+        within = omega (arith, is_u, i.unsettled.within x at_x.0);
+        free = subst (λ v. among ns k v ≡ true) is_u (among_at ns k x at_x.0);
+        some = omega (arith, t.nearest.some, dist_x);
         least = λ v p q.
-            let w = unsettled_some ns k v q in
+            let w = among_some ns k v q in
             let j = still_length w.0 w.1 in
-            let e : get_or l (number_at (take k ns) w.0) 0 ≡ get_or l v 0 = ap (λ y. get_or l y 0) ((number_taken w.0 j).1 ∙ w.2) in
-            omega (arith, n.least w.0 j, dist_x);
+            let e : get_or dist (number_at (take k ns) w.0) 0 ≡ get_or dist v 0 = ap (λ y. get_or dist y 0) ((number_taken w.0 j).1 ∙ w.2) in
+            omega (arith, t.nearest.least w.0 j, dist_x);
       }
 
-      opened : Unsettled z.n ns (suc m)
-      opened = subst (λ j. Unsettled z.n ns j) c i.unsettled
+      opened : Unsettled z.n ns (suc more.count)
+      opened = subst (λ j. Unsettled z.n ns j) (omega (arith, t.fewer)) i.unsettled
 
-      below : x < suc m
-      below = omega (arith, at_x.0)
+      below : x < suc more.count
+      below = omega (arith, at_x.0, t.fewer)
 
-      less_of : Less u (unsettled_at ns k) (unsettled_at fewer m)
-      less_of = record {
-        here = gone z.n ns m opened x below;
-        others = λ v ne. same_unsettled z.n ns m opened x below v ne ∙ ap (λ j. unsettled_at ns j v) (sym c);
-      }
+      moved : more.nodes ≡ set ns x (get_or ns more.count (record { 0 = 0 }))
+      moved = t.nodes ∙ ap (set ns x) (get_or_default ns more.count u (record { 0 = 0 }) (omega (arith, t.fewer, i.unsettled.size, i.unsettled.few)))
 
-      pub stands_more : (q : List ℕ) → length q ≡ length l → ((e : ℕ) → e < z.n → get_or q e 0 ≡ relaxed (z.cost u e) (get_or l u 0) (get_or l e 0)) → Standing z d fewer m q
-      stands_more q o r =
-          let turn : (e : ℕ) → e < z.n → Relaxed (z.cost u e) (get_or l u 0) (get_or l e 0) (get_or q e 0) =
-          λ e h. subst (Relaxed (z.cost u e) (get_or l u 0) (get_or l e 0)) (sym (r e h)) (relaxed_is (z.cost u e) (get_or l u 0) (get_or l e 0)) in
+      less_of : Less u.0 (among ns k) (among more.nodes more.count)
+      less_of = rw moved (record {
+        here = subst (λ v. among (set ns x (get_or ns more.count (record { 0 = 0 }))) more.count v ≡ false) is_u (gone z.n ns more.count opened x below);
+        others = λ v ne. same_unsettled z.n ns more.count opened x below v (λ e. ne (e ∙ is_u)) ∙ ap (λ j. among ns j v) (omega (arith, t.fewer));
+      })
+
+      pub stands_more : (new : List ℕ) → Relaxes z u.0 (get_or dist u.0 0) dist new → Standing z d more new
+      stands_more new r =
+          let turn : (e : ℕ) → e < z.n → Relaxed (z.cost u.0 e) (get_or dist u.0 0) (get_or dist e 0) (get_or new e 0) =
+          λ e h. subst (Relaxed (z.cost u.0 e) (get_or dist u.0 0) (get_or dist e 0)) (sym (r.each e h)) (relaxed_is (z.cost u.0 e) (get_or dist u.0 0) (get_or dist e 0)) in
           record {
-            unsettled = unsettled_less z.n ns m opened x below;
-            size = o ∙ i.size;
+            unsettled = rw moved (unsettled_less z.n ns more.count opened x below);
+            size = r.size ∙ i.size;
             aim = i.aim;
-            top = λ v h. omega (arith, (turn v h).less, i.top v h);
-            part = partly_more z d (unsettled_at ns k) (unsettled_at fewer m) (dist_at l) (dist_at q) u (record {
+            part = partly_more z d (among ns k) (among more.nodes more.count) (λ v. get_or dist v 0) (λ v. get_or new v 0) u.0 (record {
               lawful = g;
               limited = s;
               aim = i.aim;

@@ -1,38 +1,27 @@
 -- A list whose first k nodes are unsettled, and one of them taken out. Assumes nothing.
--- is the node e among the first k?
-use Rattle.std.proofs.Common.{◌≡◌, ℕ, zero, suc, ◌<◌, ◌≤◌, Bool, true, false, ◌||◌, eqb, List, length, get_or, set, sym, refl, ap, ◌∙◌, subst, inl, inr, arith, length-set}
+use Rattle.std.proofs.Common.{◌≡◌, ℕ, zero, suc, ◌<◌, ◌≤◌, true, false, eqb, List, length, get_or, set, sym, refl, ap, ◌∙◌, subst, inl, inr, arith, length-set}
 use Rattle.std.proofs.lemmas.Bool.{both_ways, eqb-true, eq-eqb, cases_eq, cases_Bool, or_cases, or_left, or_right}
 use Rattle.std.proofs.lemmas.List.{get_or-set_same, get_or-set_other}
-use Rattle.routes.specs.Dijkstra.{number_at, Numbered}
+use Rattle.routes.specs.NodeLists.{number_at, Numbered, among}
+use Rattle.routes.specs.Settling.{Unsettled}
 use Rattle.links.specs.declared.node.NodeId.{NodeId}
 
-unfoldable pub unsettled_at : List NodeId → ℕ → ℕ → Bool
-unsettled_at ns zero e = false
-unsettled_at ns (suc k) e = eqb (number_at ns k) e || unsettled_at ns k e
-
-pub at_unsettled : (ns : List NodeId) (k i : ℕ) → i < k → unsettled_at ns k (number_at ns i) ≡ true
-unfolding unsettled_at
-at_unsettled ns zero i h = absurd (omega arith)
-at_unsettled ns (suc k) i h = elim (cases_eq i k) [
-  | inl e ↦ or_left (eqb (number_at ns k) (number_at ns i)) (unsettled_at ns k (number_at ns i)) (eq-eqb (number_at ns k) (number_at ns i) (ap (number_at ns) (sym e)))
-  | inr e ↦ or_right (eqb (number_at ns k) (number_at ns i)) (unsettled_at ns k (number_at ns i)) (at_unsettled ns k i (omega arith))
+pub among_at : (ns : List NodeId) (k i : ℕ) → i < k → among ns k (number_at ns i) ≡ true
+unfolding among
+among_at ns zero i h = absurd (omega arith)
+among_at ns (suc k) i h = elim (cases_eq i k) [
+  | inl e ↦ or_left (eqb (number_at ns k) (number_at ns i)) (among ns k (number_at ns i)) (eq-eqb (number_at ns k) (number_at ns i) (ap (number_at ns) (sym e)))
+  | inr e ↦ or_right (eqb (number_at ns k) (number_at ns i)) (among ns k (number_at ns i)) (among_at ns k i (omega arith))
 ]
 
 -- where an unsettled node stands
-pub unsettled_some : (ns : List NodeId) (k e : ℕ) → unsettled_at ns k e ≡ true → (i : ℕ) × (i < k) × (number_at ns i ≡ e)
-unfolding unsettled_at
-unsettled_some ns zero e t = absurd (both_ways false refl t)
-unsettled_some ns (suc k) e t = elim (or_cases (eqb (number_at ns k) e) (unsettled_at ns k e) t) [
+pub among_some : (ns : List NodeId) (k e : ℕ) → among ns k e ≡ true → (i : ℕ) × (i < k) × (number_at ns i ≡ e)
+unfolding among
+among_some ns zero e t = absurd (both_ways false refl t)
+among_some ns (suc k) e t = elim (or_cases (eqb (number_at ns k) e) (among ns k e) t) [
   | inl h ↦ (k, omega arith, eqb-true (number_at ns k) e h)
-  | inr h ↦ let i = unsettled_some ns k e h in (i.0, omega (arith, i.1), i.2)
+  | inr h ↦ let i = among_some ns k e h in (i.0, omega (arith, i.1), i.2)
 ]
-
--- the first k of at most 64 nodes are different ones below n
-pub record Unsettled (n : ℕ) (ns : List NodeId) (k : ℕ) : Type 0 where
-  pub size : length ns ≡ 64
-  pub few : k ≤ 64
-  pub within : (i : ℕ) → i < k → number_at ns i < n
-  pub distinct : (i j : ℕ) → i < k → j < k → number_at ns i ≡ number_at ns j → i ≡ j
 
 pub all_unsettled : (n : ℕ) (ns : List NodeId) → length ns ≡ 64 → Numbered ns 64 → n ≤ 64 → Unsettled n ns n
 all_unsettled n ns m q h = record {
@@ -60,30 +49,30 @@ module _ (n : ℕ) (ns : List NodeId) (k : ℕ) (o : Unsettled n ns (suc k)) (i 
     | inr e ↦ (j, omega arith, e, other j e)
   ]
 
-  pub gone : unsettled_at taken k (number_at ns i) ≡ false
-  gone = elim (cases_Bool (unsettled_at taken k (number_at ns i))) [
+  pub gone : among taken k (number_at ns i) ≡ false
+  gone = elim (cases_Bool (among taken k (number_at ns i))) [
     | inr f ↦ f
     | inl t ↦
-        let w = unsettled_some taken k (number_at ns i) t in
+        let w = among_some taken k (number_at ns i) t in
         let x = stood w.0 w.1 in
         absurd (x.2 (o.distinct x.0 i x.1 l (sym x.3 ∙ w.2)))
   ]
 
-  pub same_unsettled : (e : ℕ) → (e ≡ number_at ns i → ⊥) → unsettled_at taken k e ≡ unsettled_at ns (suc k) e
-  same_unsettled e h = elim (cases_Bool (unsettled_at ns (suc k) e)) [
+  pub same_unsettled : (e : ℕ) → (e ≡ number_at ns i → ⊥) → among taken k e ≡ among ns (suc k) e
+  same_unsettled e h = elim (cases_Bool (among ns (suc k) e)) [
     | inl t ↦
-        let w = unsettled_some ns (suc k) e t in
+        let w = among_some ns (suc k) e t in
         let ne : w.0 ≡ i → ⊥ = λ q. h (sym w.2 ∙ ap (number_at ns) q) in
         elim (cases_eq w.0 k) [
-          | inl q ↦ subst (λ v. unsettled_at taken k v ≡ true) (there ∙ (ap (number_at ns) (sym q) ∙ w.2)) (at_unsettled taken k i (omega (arith, w.1))) ∙ sym t
-          | inr q ↦ subst (λ v. unsettled_at taken k v ≡ true) (other w.0 ne ∙ w.2) (at_unsettled taken k w.0 (omega (arith, w.1))) ∙ sym t
+          | inl q ↦ subst (λ v. among taken k v ≡ true) (there ∙ (ap (number_at ns) (sym q) ∙ w.2)) (among_at taken k i (omega (arith, w.1))) ∙ sym t
+          | inr q ↦ subst (λ v. among taken k v ≡ true) (other w.0 ne ∙ w.2) (among_at taken k w.0 (omega (arith, w.1))) ∙ sym t
         ]
-    | inr f ↦ elim (cases_Bool (unsettled_at taken k e)) [
+    | inr f ↦ elim (cases_Bool (among taken k e)) [
       | inr u ↦ u ∙ sym f
       | inl u ↦
-          let w = unsettled_some taken k e u in
+          let w = among_some taken k e u in
           let x = stood w.0 w.1 in
-          absurd (both_ways (unsettled_at ns (suc k) e) f (subst (λ v. unsettled_at ns (suc k) v ≡ true) (sym x.3 ∙ w.2) (at_unsettled ns (suc k) x.0 x.1)))
+          absurd (both_ways (among ns (suc k) e) f (subst (λ v. among ns (suc k) v ≡ true) (sym x.3 ∙ w.2) (among_at ns (suc k) x.0 x.1)))
     ]
   ]
 

@@ -1,25 +1,24 @@
 -- The steps of Dijkstra's algorithm. Assumes nothing.
-use Rattle.std.specs.Prelude.{◌≡◌, ℕ, ◌+◌, ◌<◌, ◌≤◌, cond, ◌&&◌, List, length, Option, MatchOption, nat_lt, slice_index, slice_index_or}
+use Rattle.std.specs.Prelude.{◌≡◌, ℕ, ◌+◌, ◌<◌, ◌≤◌, cond, ◌&&◌, ◌⊎◌, List, length, take, Option, MatchOption, nat_lt, slice_index, slice_index_or, slice_set}
 use Rattle.links.specs.declared.node.NodeId.{NodeId}
+use Rattle.theory.specs.Network.{Network}
+use Rattle.routes.specs.NodeLists.{number_at}
+use Rattle.routes.specs.declared.node_list.NodeList.{NodeList}
 
 -- the distance once the link of that cost, to a node at the distance here, is taken into account
 abbrev pub relaxed : ℕ → ℕ → ℕ → ℕ
 relaxed cost here there = cond (nat_lt 0 cost && nat_lt (here + cost) there) (here + cost) there
 
--- so for each link of a node at the distance here, whose costs row has
-abbrev pub Relaxes : List ℕ → ℕ → List ℕ → List ℕ → Type 0
-Relaxes row here old new = (e : ℕ) → e < length row → slice_index new e ≡ relaxed (slice_index row e) here (slice_index old e)
+-- so for each link of the node u at the distance here
+pub record Relaxes (z : Network) (u here : ℕ) (old new : List ℕ) : Type 0 where
+  pub size : length new ≡ length old
+  pub each : (e : ℕ) → e < z.n → slice_index new e ≡ relaxed (z.cost u e) here (slice_index old e)
 
--- the number of the node at i
-abbrev pub number_at : List NodeId → ℕ → ℕ
-number_at ns i = (slice_index_or ns i (record { 0 = 0 })).0
-
--- the first k nodes are 0, 1, 2, ..
-abbrev pub Numbered : List NodeId → ℕ → Type 0
-Numbered ns k = (i : ℕ) → i < k → number_at ns i ≡ i
-
-abbrev pub Below : List NodeId → ℕ → Type 0
-Below ns n = (i : ℕ) → i < length ns → number_at ns i < n
+-- the least over the links of a node to others, where dist says how far those are; 2^32 - 1 where none is known to be anywhere
+pub record LeastOver (z : Network) (a : ℕ) (dist : List ℕ) (c : ℕ) : Type 0 where
+  pub top : c ≤ 4294967295
+  pub least : (e : ℕ) → 0 < z.cost a e → c ≤ z.cost a e + slice_index dist e
+  pub one : (c ≡ 4294967295) ⊎ ((e : ℕ) × (0 < z.cost a e) × (c ≡ z.cost a e + slice_index dist e))
 
 -- none of the nodes has a distance
 abbrev pub NoneNearer : List NodeId → List ℕ → Type 0
@@ -33,3 +32,15 @@ pub record Nearest (ns : List NodeId) (dist : List ℕ) (i : ℕ) : Type 0 where
 
 abbrev pub IsNearest : List NodeId → List ℕ → Option ℕ → Type 0
 IsNearest ns dist r = MatchOption r (NoneNearer ns dist) (Nearest ns dist)
+
+-- the nearest of a list is taken out: the last takes its place
+pub record TakenAt (old new : NodeList) (dist : List ℕ) (u : NodeId) : Type 0 where
+  pub at : ℕ
+  pub few : old.count ≤ length old.nodes
+  pub nearest : Nearest (take old.count old.nodes) dist at
+  pub node : u ≡ slice_index_or old.nodes at u
+  pub fewer : old.count ≡ new.count + 1
+  pub nodes : new.nodes ≡ slice_set old.nodes at (slice_index_or old.nodes new.count u)
+
+abbrev pub Taken : (old new : NodeList) → List ℕ → Option NodeId → Type 0
+Taken old new dist r = MatchOption r ((new ≡ old) × NoneNearer (take old.count old.nodes) dist) (TakenAt old new dist)

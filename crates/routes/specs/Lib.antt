@@ -2,5 +2,10 @@ pub mod Costs
 pub mod Distances
 pub mod Dijkstra
 pub mod Matrix
+pub mod Neighbours
 pub mod NextHops
+pub mod NodeLists
 pub mod Routes
+pub mod Settling
+pub mod Surviving
+pub mod Touched

@@ -2,4 +2,5 @@
 #![tactic(auto)]
 
 pub mod matrix;
+mod node_list;
 pub mod routes;

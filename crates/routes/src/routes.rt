@@ -6,8 +6,10 @@ use crate::matrix::CostMatrix;
 use links::node::NodeId;
 
 pub mod build;
+pub mod failing;
 pub mod lookups;
 pub mod paths;
+mod touched;
 
 // All distances and next hops of a network, in rows of 64: row d has those of each node for d. Two arrays, as a row of
 // distances is lent as a slice.

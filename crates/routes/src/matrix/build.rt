@@ -4,6 +4,7 @@ ghost use Rattle.links.specs.Topology.{network};
 ghost use Rattle.routes.specs.Costs.{Written};
 ghost use Rattle.routes.specs.Matrix.{matrix_network};
 
+use super::neighbours::neighbours_by;
 use super::{CostMatrix, put};
 use links::link::Link;
 use links::topology::Topology;
@@ -15,7 +16,12 @@ impl CostMatrix {
     {
         let nodes = topology.nodes();
         let costs = costs_of(nodes, topology.links());
-        CostMatrix { nodes, costs }
+        let neighbours = neighbours_by(nodes, &costs);
+        CostMatrix {
+            nodes,
+            costs,
+            neighbours,
+        }
     }
 }
 

@@ -1,9 +1,10 @@
-ghost use Rattle.std.specs.Prelude.{◌≡◌};
+ghost use Rattle.std.specs.Prelude.{◌≡◌, ◌<◌};
 ghost use Rattle.links.specs.Links.{IsNodeCount};
 ghost use Rattle.routes.specs.Costs.{link_cost};
 ghost use Rattle.routes.specs.Matrix.{matrix_network};
+ghost use Rattle.routes.specs.Neighbours.{Neighbours};
 
-use super::CostMatrix;
+use super::{CostMatrix, cell};
 use links::node::NodeId;
 
 impl CostMatrix {
@@ -23,5 +24,21 @@ impl CostMatrix {
             0 => None,
             cost => Some(cost),
         }
+    }
+
+    // The same of two nodes, 0 where there is none.
+    pub(crate) fn cost_of(&self, a: NodeId, b: NodeId) -> u16
+        requires { (a.0 < (matrix_network self.now).n) × (b.0 < (matrix_network self.now).n) }
+        ensures { result ≡ (matrix_network self.now).cost a.0 b.0 }
+    {
+        self.costs[cell(a, b)]
+    }
+
+    // The nodes to which a node has a link, in rising order, perhaps with some to which a link has failed.
+    pub(crate) fn neighbours(&self, a: NodeId) -> &[NodeId]
+        requires { a.0 < (matrix_network self.now).n }
+        ensures { Neighbours (matrix_network self.now) a.0 result.now }
+    {
+        self.neighbours[a.0 as usize].as_slice()
     }
 }

@@ -3,6 +3,7 @@ ghost use Rattle.routes.specs.Distances.{DistanceRows};
 ghost use Rattle.routes.specs.Matrix.{matrix_network};
 ghost use Rattle.routes.specs.NextHops.{HopRows};
 
+use super::surviving::Surviving;
 use super::{CostMatrix, row_of};
 use links::node::NodeId;
 
@@ -13,12 +14,13 @@ impl CostMatrix {
         ensures near { DistanceRows (matrix_network self.now) self.now.nodes dist.new }
         ensures next { HopRows (matrix_network self.now) self.now.nodes hops.new }
     {
+        let whole = Surviving::whole(self);
         for d in 0..self.nodes {
-            let end = NodeId(d);
+            let d = NodeId(d);
             // a row is lent on as a part of the lent table
-            let row = &mut dist[row_of(end, self.nodes)];
-            self.settle(end, row);
-            self.next_hops(row, &mut hops[row_of(end, self.nodes)]);
+            let row = &mut dist[row_of(d, self.nodes)];
+            whole.settle(d, row);
+            whole.next_hops(row, &mut hops[row_of(d, self.nodes)]);
         }
     }
 }

@@ -13,8 +13,13 @@ impl CostMatrix {
         ensures { matrix_network result ≡ without (ends link) (matrix_network self.now) }
     {
         let nodes = self.nodes;
+        let neighbours = self.neighbours;
         let costs = self.costs_without(link);
-        CostMatrix { nodes, costs }
+        CostMatrix {
+            nodes,
+            costs,
+            neighbours,
+        }
     }
 
     // The costs but for one link.

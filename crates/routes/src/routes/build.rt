@@ -6,9 +6,10 @@ ghost use Rattle.routes.specs.Matrix.{matrix_network};
 ghost use Rattle.routes.specs.Routes.{routes_network};
 
 use super::Routes;
-use crate::matrix::CostMatrix;
 use crate::matrix::distances::NEVER;
+use crate::matrix::{CostMatrix, row_of};
 use links::link::LinkId;
+use links::node::NodeId;
 use links::topology::Topology;
 
 impl Routes {
@@ -37,6 +38,22 @@ impl Routes {
     pub fn without(&self, link: LinkId) -> Routes
         ensures { routes_network result ≡ without (ends link) (routes_network self.now) }
     {
-        Routes::of_costs(self.costs.without(link))
+        let costs = self.costs.without(link);
+        let mut distances = self.distances;
+        let mut hops = self.hops;
+        for d in 0..self.nodes() {
+            let d = NodeId(d);
+            self.fill_without(
+                link,
+                d,
+                &mut distances[row_of(d, self.nodes())],
+                &mut hops[row_of(d, self.nodes())],
+            );
+        }
+        Routes {
+            costs,
+            distances,
+            hops,
+        }
     }
 }

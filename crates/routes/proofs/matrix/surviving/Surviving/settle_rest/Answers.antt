@@ -1,0 +1,22 @@
+use Rattle.std.proofs.Common.{◌∙◌, arith}
+use Rattle.routes.specs.Surviving.{surviving_network}
+use Rattle.routes.proofs.LeftNetwork.{surviving_lawful, surviving_limited}
+use Rattle.routes.proofs.Settled.{taken_below, stands_more, stands_all}
+use Rattle.routes.proofs.matrix.surviving.Surviving.settle_rest.Goals as goal
+
+pub loop-u-preserved : goal.loop-u-preserved
+loop-u-preserved c =
+    let s = c.args.self.now in
+    let z = surviving_network s in
+    let i = c.loop-u.invariant in
+    let t = c.in-Some.ensures in (
+      omega (arith, t.fewer, i.0),
+      taken_below z.n c.loop-u.unsettled c.take_nearest.new.self c.loop-u.dist c.in-Some.u t i.1,
+      c.relax.ensures.size ∙ i.2,
+      λ d h. stands_more z (surviving_lawful s) (surviving_limited s) d c.loop-u.unsettled c.loop-u.dist (i.3 d h) c.take_nearest.new.self c.in-Some.u t c.relax.new.dist c.relax.ensures,
+    )
+
+pub returns : goal.returns
+returns c d h =
+    let s = c.args.self.now in
+    stands_all (surviving_network s) (surviving_lawful s) (surviving_limited s) d c.loop-u.unsettled c.loop-u.dist (c.loop-u.invariant.3 d h) c.in_default.ensures.1

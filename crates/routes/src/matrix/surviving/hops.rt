@@ -1,0 +1,37 @@
+ghost use Rattle.std.specs.Prelude.{◌≡◌, ◌<◌, length};
+ghost use Rattle.routes.specs.NextHops.{HopBy, HopsBy};
+ghost use Rattle.routes.specs.Surviving.{surviving_network};
+
+use super::Surviving;
+use links::node::NodeId;
+
+impl<'a> Surviving<'a> {
+    // The next hop of each node for d, where dist has the distances to d.
+    pub(crate) fn next_hops(&self, dist: &[u32], hops: &mut [Option<NodeId>])
+        requires { (length dist.now ≡ (surviving_network self.now).n) × (length hops.old ≡ (surviving_network self.now).n) }
+        ensures { HopsBy (surviving_network self.now) dist.now (surviving_network self.now).n hops.new }
+    {
+        for (a, hop) in hops.iter_mut().enumerate() {
+            *hop = self.hop_of(NodeId(a as u8), dist);
+        }
+    }
+
+    // The lowest-numbered neighbour by which a node is as near as it can be.
+    // d itself has none, as no node is nearer, nor has a node at NEVER, as no link costs so much.
+    pub(crate) fn hop_of(&self, a: NodeId, dist: &[u32]) -> Option<NodeId>
+        requires { (a.0 < (surviving_network self.now).n) × (length dist.now ≡ (surviving_network self.now).n) }
+        ensures { HopBy (surviving_network self.now) dist.now a.0 result }
+    {
+        let here = dist[a.0 as usize];
+        // a loop left by its label at the first that is as near, and not a chain: a rule of the project
+        let mut found = None;
+        'nearest: for e in self.neighbours(a) {
+            let there = dist[e.0 as usize];
+            if there < here && here - there == u32::from(self.cost(a, *e)) {
+                found = Some(*e);
+                break 'nearest;
+            }
+        }
+        found
+    }
+}
