@@ -1,2 +1,3 @@
 pub mod Right
 pub mod Found
+pub mod LeftLawful

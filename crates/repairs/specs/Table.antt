@@ -1,17 +1,13 @@
 -- A node's table of repairs: 64 rows of 64 entries, the row of a link by its other end, a column for each destination. Assumes nothing.
-use Rattle.std.specs.Prelude.{◌≡◌, ℕ, ◌+◌, ◌*◌, ◌<◌, ◌≤◌, false, ◌⊎◌, List, length, Result, MatchResult, ◌≢◌, slice_index_or}
+use Rattle.std.specs.Prelude.{◌≡◌, ℕ, ◌+◌, ◌*◌, ◌<◌, ◌≤◌, ◌⊎◌, List, length, Result, MatchResult, ◌≢◌, slice_index_or}
 use Rattle.links.specs.declared.fault.Fault.{Fault}
 use Rattle.links.specs.declared.fault.Fault.TheVariants.{NoSuchLink, WrongLength}
 use Rattle.theory.specs.Network.{Network}
-use Rattle.theory.specs.Repair.{laid, sends}
+use Rattle.theory.specs.Repair.{laid}
 use Rattle.repairs.specs.Entries.{meaning}
 use Rattle.repairs.specs.Serving.{Right}
 use Rattle.repairs.specs.declared.repair.Entry.{Entry}
 use Rattle.repairs.specs.declared.repair.Entry.TheVariants.{Unused}
-
--- s sends packets for none of the first k destinations to f
-abbrev pub SendsNone : Network → ℕ → ℕ → ℕ → Type 0
-SendsNone z s f k = (d : ℕ) → d < k → sends z s f d ≡ false
 
 -- the first k entries of a row are what s lays up for its link to f
 abbrev pub RowLaid : Network → ℕ → ℕ → ℕ → List Entry → Type 0

@@ -1,19 +1,19 @@
-ghost use Rattle.std.specs.Prelude.{◌≡◌, ◌<◌, false, length, MatchResult};
-ghost use Rattle.theory.specs.Network.{without};
-ghost use Rattle.theory.specs.NextHop.{path};
+ghost use Rattle.std.specs.Prelude.{◌≡◌, ◌<◌, length, MatchResult};
+ghost use Rattle.links.specs.Link.{ends};
+ghost use Rattle.theory.specs.NextHop.{next_hop, path};
 ghost use Rattle.theory.specs.Repair.{sends, last_reached, laid};
 ghost use Rattle.routes.specs.Distances.{Filled};
-ghost use Rattle.routes.specs.Matrix.{matrix_network};
+ghost use Rattle.routes.specs.NextHops.{hop_of};
 ghost use Rattle.routes.specs.Routes.{routes_network};
 ghost use Rattle.repairs.specs.Entries.{repair_of, meaning};
-ghost use Rattle.repairs.specs.Link.{link_network};
-ghost use Rattle.repairs.specs.Table.{SendsNone, RowLaid, LinkLaid, Refused, RowAsked, TableAsked};
+ghost use Rattle.repairs.specs.Link.{left_network, link_network};
+ghost use Rattle.repairs.specs.Table.{RowLaid, LinkLaid, Refused, RowAsked, TableAsked};
 
 use crate::repair::{Entry, Repair};
 use links::fault::Fault;
 use links::link::LinkId;
 use links::node::NodeId;
-use routes::matrix::{CostMatrix, row_of};
+use routes::matrix::row_of;
 use routes::routes::Routes;
 
 // Lays up the repairs of s for its link to f: the row of f in its table, which has 64 rows of 64.
@@ -45,13 +45,13 @@ struct Protected<'a> {
     f: NodeId,
 }
 
-// The network that is left when it fails, and the distances to d there.
+// The distances to d when it fails.
 #[derive(Drop)]
 struct Left<'a> {
-    rest: &'a CostMatrix,
+    link: Protected<'a>,
     d: NodeId,
     dist: &'a [u32],
-    ghost filled: { Filled (matrix_network rest.now) d.0 dist.now },
+    ghost filled: { Filled (left_network link) d.0 dist.now },
 }
 
 impl<'a> Protected<'a> {
@@ -81,24 +81,9 @@ impl<'a> Protected<'a> {
         requires { length row.old ≡ (link_network self.now).n }
         ensures { RowLaid (link_network self.now) self.now.s.0 self.now.f.0 (link_network self.now).n row.new }
     {
-        if !self.sends_any() {
-            row.fill(Entry::Unused);
-            return;
-        }
-        let rest = self.routes.costs().without(LinkId {
-            a: self.s,
-            b: self.f,
-        });
         for (d, entry) in row.iter_mut().enumerate() {
-            *entry = self.entry(&rest, NodeId(d as u8));
+            *entry = self.entry(NodeId(d as u8));
         }
-    }
-
-    // Does s send packets for any destination over it?
-    fn sends_any(&self) -> bool
-        ensures { result ≡ false → SendsNone (link_network self.now) self.now.s.0 self.now.f.0 (link_network self.now).n }
-    {
-        (0..self.routes.nodes()).any(|d| self.sends(NodeId(d)))
     }
 
     // Does s send packets for x over it?
@@ -108,43 +93,65 @@ impl<'a> Protected<'a> {
         self.routes.next_hop(x, self.s) == Some(self.f)
     }
 
-    // What s lays up for the destination d; rest is the network without the link.
-    fn entry(&self, rest: &CostMatrix, d: NodeId) -> Entry
-        requires within { d.0 < (link_network self.now).n }
-        requires left { matrix_network rest.now ≡ without (record { a = self.now.s.0; b = self.now.f.0 }) (link_network self.now) }
+    // What s lays up for the destination d.
+    fn entry(&self, d: NodeId) -> Entry
+        requires { d.0 < (link_network self.now).n }
         ensures { meaning result ≡ laid (link_network self.now) self.now.s.0 self.now.f.0 d.0 }
     {
         if !self.sends(d) {
             return Entry::Unused;
         }
-        match self.repair(rest, d) {
+        match self.repair(d) {
             Some(repair) => Entry::Via(repair),
             None => Entry::Apart,
         }
     }
 
     // The repair for d, to which s sends over the link: nothing is worked out for other destinations.
-    fn repair(&self, rest: &CostMatrix, d: NodeId) -> Option<Repair>
-        requires within { d.0 < (matrix_network rest.now).n }
-        ensures { repair_of result ≡ last_reached (link_network self.now) self.now.s.0 self.now.f.0 self.now.s.0 (path (matrix_network rest.now) d.0 self.now.s.0) }
+    fn repair(&self, d: NodeId) -> Option<Repair>
+        requires { d.0 < (link_network self.now).n }
+        ensures { repair_of result ≡ last_reached (link_network self.now) self.now.s.0 self.now.f.0 self.now.s.0 (path (left_network self.now) d.0 self.now.s.0) }
     {
         let mut room = [0u32; 64];
-        let dist = &mut room[0..rest.nodes() as usize];
-        rest.distances(d, dist).ok()?;
-        self.along(&Left { rest, d, dist }, self.s)
+        let dist = &mut room[0..self.routes.nodes() as usize];
+        self.routes.distances_without(self.id(), d, dist).ok()?;
+        let left = Left {
+            link: *self,
+            d,
+            dist,
+        };
+        left.along(self.s)
     }
 
-    // Along the path that is left from w to d: the last link whose first node s reaches by another neighbour.
-    fn along(&self, left: &Left, w: NodeId) -> Option<Repair>
-        ensures { repair_of result ≡ last_reached (link_network self.now) self.now.s.0 self.now.f.0 w.0 (path (matrix_network left.now.rest.now) left.now.d.0 w.0) }
+    fn id(&self) -> LinkId
+        ensures { ends result ≡ record { a = self.now.s.0; b = self.now.f.0 } }
     {
-        let q = left.rest.next_hop(w, left.dist)?;
-        if let Some(later) = self.along(left, q) {
+        LinkId {
+            a: self.s,
+            b: self.f,
+        }
+    }
+}
+
+impl<'a> Left<'a> {
+    // Along the path that is left from w to d: the last link whose first node s reaches by another neighbour.
+    fn along(&self, w: NodeId) -> Option<Repair>
+        ensures { repair_of result ≡ last_reached (link_network self.now.link) self.now.link.s.0 self.now.link.f.0 w.0 (path (left_network self.now.link) self.now.d.0 w.0) }
+    {
+        let q = self.next_hop(w)?;
+        if let Some(later) = self.along(q) {
             return Some(later);
         }
-        if self.sends(w) {
+        if self.link.sends(w) {
             return None;
         }
         Some(Repair { p: w, q })
+    }
+
+    // The next hop of a node when the link fails.
+    fn next_hop(&self, w: NodeId) -> Option<NodeId>
+        ensures { hop_of result ≡ next_hop (left_network self.now.link) self.now.d.0 w.0 }
+    {
+        self.link.routes.next_hop_without(self.link.id(), w, self.dist)
     }
 }
