@@ -9,12 +9,7 @@ use Rattle.routes.specs.NodeLists.{number_at, among, list_at}
 use Rattle.routes.specs.Neighbours.{Linked, Neighbours}
 use Rattle.routes.specs.declared.node_list.NodeList.{NodeList}
 use Rattle.routes.proofs.Costs.{cost_in_lem}
-
--- where the first k are the same nodes, the same are among them
-pub among_same : (ns ms : List NodeId) (k e : ℕ) → ((i : ℕ) → i < k → number_at ns i ≡ number_at ms i) → among ns k e ≡ among ms k e
-unfolding among
-among_same ns ms zero e h = refl
-among_same ns ms (suc k) e h = ap₂ (λ x y. eqb x e || y) (h k (omega arith)) (among_same ns ms k e (λ i l. h i (omega arith)))
+use Rattle.routes.proofs.Unsettled.{among_same, among_taken}
 
 -- a node put at k
 module _ (ns : List NodeId) (k : ℕ) (v : NodeId) (l : k < length ns) where
@@ -102,7 +97,7 @@ neighbours_taken z a l size few below rising all =
     record {
       below = λ i p. omega (arith, same i (omega arith), below i (omega arith));
       rising = λ i j p. omega (arith, same i (omega (arith, p.0, p.1)), same j (omega (arith, p.1)), rising i j (p.0, omega (arith, p.1)));
-      all = λ b c. ap (λ m. among (take k ns) m b) n ∙ (among_same (take k ns) ns k b same ∙ all b c);
+      all = λ b c. among_taken ns k b (omega arith) ∙ all b c;
     }
 
 -- so are those of the cells of a row

@@ -17,9 +17,6 @@ relaxed_twice k here there =
     let b = relaxed_is k here (relaxed k here there) in
     elim b.one [ inl e ↦ e | inr y ↦ omega (arith, b.less, a.over y.0, y.1) ]
 
-relaxed_none : (k here there : ℕ) → k ≡ 0 → relaxed k here there ≡ there
-relaxed_none k here there e = elim (relaxed_is k here there).one [ inl x ↦ x | inr y ↦ absurd (omega (arith, y.0)) ]
-
 among_suc : (ns : List NodeId) (k e : ℕ) → among ns (suc k) e ≡ (eqb (number_at ns k) e || among ns k e)
 unfolding among
 among_suc ns k e = refl
@@ -27,14 +24,9 @@ among_suc ns k e = refl
 pub among_next : (ns : List NodeId) (k e : ℕ) → among ns (k + 1) e ≡ (eqb (number_at ns k) e || among ns k e)
 among_next ns k e = subst (λ j. among ns j e ≡ (eqb (number_at ns k) e || among ns k e)) (omega arith) (among_suc ns k e)
 
--- the links to the first k nodes of ns are relaxed
-abbrev pub RelaxedFirst : Network → (u here : ℕ) → (old new : List ℕ) → List NodeId → ℕ → Type 0
-RelaxedFirst z u here old new ns k =
-    (length new ≡ length old) × ((e : ℕ) → e < z.n → get_or new e 0 ≡ cond (among ns k e) (relaxed (z.cost u e) here (get_or old e 0)) (get_or old e 0))
-
-pub relaxed_more : (z : Network) (u here : ℕ) (old now : List ℕ) (ns : List NodeId) (k r : ℕ) → length old ≡ z.n → number_at ns k < z.n → RelaxedFirst z u here old now ns k →
-    r ≡ relaxed (z.cost u (number_at ns k)) here (get_or now (number_at ns k) 0) → RelaxedFirst z u here old (set now (number_at ns k) r) ns (k + 1)
-relaxed_more z u here old now ns k r size l h q = (length-set now (number_at ns k) r ∙ h.0, each)
+pub relaxed_more : (z : Network) (u here : ℕ) (old now : List ℕ) (ns : List NodeId) (k r : ℕ) → length old ≡ z.n → number_at ns k < z.n → Relaxes z u here ns k old now →
+    r ≡ relaxed (z.cost u (number_at ns k)) here (get_or now (number_at ns k) 0) → Relaxes z u here ns (k + 1) old (set now (number_at ns k) r)
+relaxed_more z u here old now ns k r size l h q = record { size = length-set now (number_at ns k) r ∙ h.size; each = each }
   where
     each : (e : ℕ) → e < z.n → get_or (set now (number_at ns k) r) e 0 ≡ cond (among ns (k + 1) e) (relaxed (z.cost u e) here (get_or old e 0)) (get_or old e 0)
     each e p = elim (cases_eq e (number_at ns k)) [
@@ -42,31 +34,19 @@ relaxed_more z u here old now ns k r size l h q = (length-set now (number_at ns 
           let there = relaxed (z.cost u e) here (get_or old e 0) in
           let t : among ns (k + 1) e ≡ true = among_next ns k e ∙ or_left (eqb (number_at ns k) e) (among ns k e) (eq-eqb (number_at ns k) e (sym x)) in
           let now_at : relaxed (z.cost u e) here (get_or now e 0) ≡ there = elim (cases_Bool (among ns k e)) [
-            | inl y ↦ ap (relaxed (z.cost u e) here) (h.1 e p ∙ cond-true (among ns k e) there (get_or old e 0) y) ∙ relaxed_twice (z.cost u e) here (get_or old e 0)
-            | inr y ↦ ap (relaxed (z.cost u e) here) (h.1 e p ∙ cond-false (among ns k e) there (get_or old e 0) y)
+            | inl y ↦ ap (relaxed (z.cost u e) here) (h.each e p ∙ cond-true (among ns k e) there (get_or old e 0) y) ∙ relaxed_twice (z.cost u e) here (get_or old e 0)
+            | inr y ↦ ap (relaxed (z.cost u e) here) (h.each e p ∙ cond-false (among ns k e) there (get_or old e 0) y)
           ] in
           ap (λ i. get_or (set now (number_at ns k) r) i 0) x ∙
-          (get_or-set_same now (number_at ns k) r 0 (omega (arith, h.0)) ∙ (q ∙ (ap (λ i. relaxed (z.cost u i) here (get_or now i 0)) (sym x) ∙ (now_at ∙ sym (cond-true (among ns (k + 1) e) there (get_or old e 0) t)))))
+          (get_or-set_same now (number_at ns k) r 0 (omega (arith, h.size)) ∙ (q ∙ (ap (λ i. relaxed (z.cost u i) here (get_or now i 0)) (sym x) ∙ (now_at ∙ sym (cond-true (among ns (k + 1) e) there (get_or old e 0) t)))))
       | inr x ↦
           let t : among ns (k + 1) e ≡ among ns k e = among_next ns k e ∙ ap (λ b. b || among ns k e) (ne_eqb (number_at ns k) e (λ y. x (sym y))) in
-          get_or-set_other now (number_at ns k) e r 0 x ∙ (h.1 e p ∙ ap (λ b. cond b (relaxed (z.cost u e) here (get_or old e 0)) (get_or old e 0)) (sym t))
+          get_or-set_other now (number_at ns k) e r 0 x ∙ (h.each e p ∙ ap (λ b. cond b (relaxed (z.cost u e) here (get_or old e 0)) (get_or old e 0)) (sym t))
     ]
 
--- a node that is no neighbour has no link
-pub relaxed_all : (z : Network) (u here : ℕ) (old new : List ℕ) (ns : List NodeId) (k : ℕ) → length old ≡ z.n → Neighbours z u ns → k ≡ length ns → RelaxedFirst z u here old new ns k → Relaxes z u here old new
-relaxed_all z u here old new ns k size n q h = record {
-  size = h.0;
-  each = λ e p. elim (cases_Bool (among ns k e)) [
-    | inl t ↦ h.1 e p ∙ cond-true (among ns k e) (relaxed (z.cost u e) here (get_or old e 0)) (get_or old e 0) t
-    | inr t ↦
-        let c : z.cost u e ≡ 0 = elim (cases_lt 0 (z.cost u e)) [ inl x ↦ absurd (both_ways (among ns k e) t (ap (λ j. among ns j e) q ∙ n.all e x)) | inr x ↦ omega arith ] in
-        h.1 e p ∙ (cond-false (among ns k e) (relaxed (z.cost u e) here (get_or old e 0)) (get_or old e 0) t ∙ sym (relaxed_none (z.cost u e) here (get_or old e 0) c))
-  ];
-}
-
-pub relaxed_start : (z : Network) (u here : ℕ) (old : List ℕ) (ns : List NodeId) → RelaxedFirst z u here old old ns 0
+pub relaxed_start : (z : Network) (u here : ℕ) (old : List ℕ) (ns : List NodeId) → Relaxes z u here ns 0 old old
 unfolding among
-relaxed_start z u here old ns = (refl, λ e p. refl)
+relaxed_start z u here old ns = record { size = refl; each = λ e p. refl }
 
 -- the least over the links to the first k nodes of ns
 pub record LeastFirst (z : Network) (a : ℕ) (dist : List ℕ) (ns : List NodeId) (k c : ℕ) : Type 0 where

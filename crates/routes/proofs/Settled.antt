@@ -7,7 +7,7 @@ use Rattle.routes.specs.Dijkstra.{relaxed, Relaxes, NoneNearer, TakenAt}
 use Rattle.routes.specs.NodeLists.{number_at, Numbered, BelowFirst, among}
 use Rattle.routes.specs.Settling.{Partly, Unsettled, Standing}
 use Rattle.routes.specs.declared.node_list.NodeList.{NodeList}
-use Rattle.routes.proofs.Unsettled.{among_at, among_some, all_unsettled, gone, same_unsettled, unsettled_less}
+use Rattle.routes.proofs.Unsettled.{among_taken, among_at, among_some, all_unsettled, gone, same_unsettled, unsettled_less}
 use Rattle.theory.specs.Distance.{IsPath, path_cost, distance, Found}
 use Rattle.theory.specs.Network.{Network, Lawful, Limited}
 use Rattle.theory.proofs.Distances.{distance_dist}
@@ -68,15 +68,15 @@ was_free u o p w k t = elim (cases_eq k u) [ inl e ↦ absurd (both_ways (p u) w
 settled_cases : (u : ℕ) (o p : ℕ → Bool) → Less u o p → (k : ℕ) → p k ≡ false → (k ≡ u) ⊎ (o k ≡ false)
 settled_cases u o p w k t = elim (cases_eq k u) [ inl e ↦ inl e | inr h ↦ inr (sym (w.others k h) ∙ t) ]
 
--- one turn: u is settled, and its links are relaxed
+-- one turn: u is settled, and its links to free nodes are relaxed
 pub record Turn (z : Network) (d : ℕ) (o p : ℕ → Bool) (f g : ℕ → ℕ) (u : ℕ) : Type 0 where
   pub lawful : Lawful z
-  pub limited : Limited z
-  pub aim : d < z.n
   pub before : Partly z d o f
+  pub aim : d < z.n
   pub picks : Picks z o f u
   pub less : Less u o p
-  pub relaxes : (e : ℕ) → e < z.n → Relaxed (z.cost u e) (f u) (f e) (g e)
+  pub relaxes : (e : ℕ) → e < z.n → p e ≡ true → Relaxed (z.cost u e) (f u) (f e) (g e)
+  pub kept : (e : ℕ) → e < z.n → p e ≡ false → g e ≡ f e
 
 module _ (z : Network) (d : ℕ) (o p : ℕ → Bool) (f g : ℕ → ℕ) (u : ℕ) (t : Turn z d o p f g u) where
   path_of_u : Found z d u (f u)
@@ -85,53 +85,61 @@ module _ (z : Network) (d : ℕ) (o p : ℕ → Bool) (f g : ℕ → ℕ) (u : �
   settles : (ws : List ℕ) → IsPath z d u ws → f u ≤ path_cost z u ws
   settles ws w = free_least z t.lawful d o f t.before (f u) t.picks.least u ws t.picks.within t.picks.free w
 
-  -- what is settled stays as it is
-  kept : (v : ℕ) → v < z.n → p v ≡ false → g v ≡ f v
-  unfolding path_cost
-  kept v l x = elim (t.relaxes v l).one [
-    | inl e ↦ e
-    | inr y ↦ elim (settled_cases u o p t.less v x) [
-      | inl e ↦ let k : z.cost u v ≡ 0 = ap (λ i. z.cost u i) e ∙ t.lawful.loopless u in absurd (omega (arith, y.0))
-      | inr q ↦
-          let b = t.lawful.symmetric u v in
-          let w = path_of_u in
-          let k = t.before.right v l q (u ∷ w.nodes) (omega (arith, y.0), w.path) in
-          omega (arith, k, w.cost, (t.relaxes v l).less, y.1)
-    ]
-  ]
+  falls : (v : ℕ) → v < z.n → g v ≤ f v
+  falls v l = elim (cases_Bool (p v)) [ inl x ↦ (t.relaxes v l x).less | inr x ↦ omega (arith, t.kept v l x) ]
 
   found_on : (v : ℕ) → v < z.n → g v < 4294967295 → Found z d v (g v)
   unfolding path_cost
-  found_on v l h = elim (t.relaxes v l).one [
-    | inl e ↦ subst (λ c. Found z d v c) (sym e) (t.before.found v l (omega arith))
-    | inr y ↦
-        let w = path_of_u in
-        let b = t.lawful.symmetric u v in
-        record { nodes = u ∷ w.nodes; path = (omega (arith, y.0), w.path); cost = omega (arith, w.cost, y.1) }
+  found_on v l h = elim (cases_Bool (p v)) [
+    | inr x ↦ subst (Found z d v) (sym (t.kept v l x)) (t.before.found v l (omega (arith, t.kept v l x)))
+    | inl x ↦ elim (t.relaxes v l x).one [
+      | inl e ↦ subst (Found z d v) (sym e) (t.before.found v l (omega arith))
+      | inr y ↦
+          let w = path_of_u in
+          let b = t.lawful.symmetric u v in
+          record { nodes = u ∷ w.nodes; path = (omega (arith, y.0), w.path); cost = omega (arith, w.cost, y.1) }
+    ]
+  ]
+
+  -- from u to a settled node
+  link_back : (e : ℕ) → e < z.n → o e ≡ false → 0 < z.cost u e → f e ≤ z.cost u e + f u
+  unfolding path_cost
+  link_back e l q h =
+      let b = t.lawful.symmetric u e in
+      let w = path_of_u in
+      omega (arith, t.before.right e l q (u ∷ w.nodes) (omega arith, w.path), w.cost)
+
+  link_of_u : (e : ℕ) → e < z.n → 0 < z.cost u e → g e ≤ z.cost u e + f u
+  link_of_u e l h = elim (cases_Bool (p e)) [
+    | inl x ↦ (t.relaxes e l x).over h
+    | inr x ↦ elim (settled_cases u o p t.less e x) [
+      | inl y ↦ let k : z.cost u e ≡ 0 = ap (z.cost u) y ∙ t.lawful.loopless u in absurd (omega arith)
+      | inr y ↦ omega (arith, t.kept e l x, link_back e l y h)
+    ]
   ]
 
   links_on : (x e : ℕ) → p x ≡ false → 0 < z.cost x e → g e ≤ z.cost x e + g x
   links_on x e q r =
       let l = t.lawful.within x e r in
-      let k = kept x l.0 q in
+      let k = t.kept x l.0 q in
       elim (settled_cases u o p t.less x q) [
         | inl y ↦
             let b : z.cost x e ≡ z.cost u e = ap (λ i. z.cost i e) y in
             let c : f x ≡ f u = ap f y in
-            omega (arith, (t.relaxes e l.1).over (omega arith))
-        | inr y ↦ omega (arith, t.before.links x e y r, (t.relaxes e l.1).less)
+            omega (arith, link_of_u e l.1 (omega arith))
+        | inr y ↦ omega (arith, t.before.links x e y r, falls e l.1)
       ]
 
   right_on : (v : ℕ) → v < z.n → p v ≡ false → (ws : List ℕ) → IsPath z d v ws → g v ≤ path_cost z v ws
   right_on v l q ws w = elim (settled_cases u o p t.less v q) [
-    | inl y ↦ subst (λ i. g i ≤ path_cost z i ws) (sym y) (let c = (t.relaxes u t.picks.within).less in omega (arith, settles ws (subst (λ i. IsPath z d i ws) y w)))
-    | inr y ↦ omega (arith, t.before.right v l y ws w, (t.relaxes v l).less)
+    | inl y ↦ subst (λ i. g i ≤ path_cost z i ws) (sym y) (let c = falls u t.picks.within in omega (arith, settles ws (subst (λ i. IsPath z d i ws) y w)))
+    | inr y ↦ omega (arith, t.before.right v l y ws w, falls v l)
   ]
 
   partly_more : Partly z d p g
   partly_more = record {
-    start = omega (arith, (t.relaxes d t.aim).less, t.before.start);
-    top = λ v l. omega (arith, (t.relaxes v l).less, t.before.top v l);
+    start = omega (arith, falls d t.aim, t.before.start);
+    top = λ v l. omega (arith, falls v l, t.before.top v l);
     found = found_on;
     right = right_on;
     links = links_on;
@@ -174,6 +182,9 @@ partly_all z g s d o f h none a l = elim (cases_lt (f a) 4294967295) [
     go x (Some c) e =
         let w = sound z.n z d a c e in
         absurd (omega (arith, least w.nodes w.path, w.cost, bounded z g s d a c e))
+
+pub taken_few : (old new : NodeList) (dist : List ℕ) (u : NodeId) → TakenAt old new dist u → new.count ≤ length new.nodes
+taken_few old new dist u t = omega (arith, t.few, t.fewer, ap length t.nodes, length-set old.nodes t.at (get_or old.nodes new.count u))
 
 -- what is left of nodes below n are such nodes
 pub taken_below : (n : ℕ) (old new : NodeList) (dist : List ℕ) (u : NodeId) → TakenAt old new dist u → BelowFirst n old.nodes old.count → BelowFirst n new.nodes new.count
@@ -273,21 +284,22 @@ module _ (z : Network) (g : Lawful z) (s : Limited z) (d : ℕ) where
         others = λ v ne. same_unsettled z.n ns more.count opened x below v (λ e. ne (e ∙ is_u)) ∙ ap (λ j. among ns j v) (omega (arith, t.fewer));
       })
 
-      pub stands_more : (new : List ℕ) → Relaxes z u.0 (get_or dist u.0 0) dist new → Standing z d more new
-      stands_more new r =
-          let turn : (e : ℕ) → e < z.n → Relaxed (z.cost u.0 e) (get_or dist u.0 0) (get_or dist e 0) (get_or new e 0) =
-          λ e h. subst (Relaxed (z.cost u.0 e) (get_or dist u.0 0) (get_or dist e 0)) (sym (r.each e h)) (relaxed_is (z.cost u.0 e) (get_or dist u.0 0) (get_or dist e 0)) in
+      pub stands_more : (ns' : List NodeId) (new : List ℕ) → ns' ≡ take more.count more.nodes → Relaxes z u.0 (get_or dist u.0 0) ns' (length ns') dist new → Standing z d more new
+      stands_more ns' new q r =
+          let free : (e : ℕ) → among ns' (length ns') e ≡ among more.nodes more.count e = λ e. ap (λ xs. among xs (length xs) e) q ∙ among_taken more.nodes more.count e (taken_few l more dist u t) in
           record {
             unsettled = rw moved (unsettled_less z.n ns more.count opened x below);
             size = r.size ∙ i.size;
             aim = i.aim;
             part = partly_more z d (among ns k) (among more.nodes more.count) (λ v. get_or dist v 0) (λ v. get_or new v 0) u.0 (record {
               lawful = g;
-              limited = s;
-              aim = i.aim;
               before = i.part;
+              aim = i.aim;
               picks = picks_of;
               less = less_of;
-              relaxes = turn;
+              relaxes = λ e h p.
+                  subst (Relaxed (z.cost u.0 e) (get_or dist u.0 0) (get_or dist e 0)) (sym (r.each e h ∙ cond-true (among ns' (length ns') e) (relaxed (z.cost u.0 e) (get_or dist u.0 0) (get_or dist e 0)) (get_or dist e 0) (free e ∙ p)))
+                  (relaxed_is (z.cost u.0 e) (get_or dist u.0 0) (get_or dist e 0));
+              kept = λ e h p. r.each e h ∙ cond-false (among ns' (length ns') e) (relaxed (z.cost u.0 e) (get_or dist u.0 0) (get_or dist e 0)) (get_or dist e 0) (free e ∙ p);
             });
           }

@@ -1,10 +1,26 @@
 -- A list whose first k nodes are unsettled, and one of them taken out. Assumes nothing.
-use Rattle.std.proofs.Common.{◌≡◌, ℕ, zero, suc, ◌<◌, ◌≤◌, true, false, eqb, List, length, get_or, set, sym, refl, ap, ◌∙◌, subst, inl, inr, arith, length-set}
+use Rattle.std.proofs.Common.{◌≡◌, ℕ, zero, suc, ◌<◌, ◌≤◌, true, false, ◌||◌, eqb, List, length, get_or, take, set, sym, refl, ap, ap₂, ◌∙◌, subst, inl, inr, arith, length-set}
 use Rattle.std.proofs.lemmas.Bool.{both_ways, eqb-true, eq-eqb, cases_eq, cases_Bool, or_cases, or_left, or_right}
-use Rattle.std.proofs.lemmas.List.{get_or-set_same, get_or-set_other}
-use Rattle.routes.specs.NodeLists.{number_at, Numbered, among}
+use Rattle.std.proofs.lemmas.List.{length-take-le, get_or-set_same, get_or-set_other, get_or-take}
+use Rattle.routes.specs.NodeLists.{number_at, Numbered, BelowFirst, among}
 use Rattle.routes.specs.Settling.{Unsettled}
 use Rattle.links.specs.declared.node.NodeId.{NodeId}
+
+-- where the first k are the same nodes, the same are among them
+pub among_same : (ns ms : List NodeId) (k e : ℕ) → ((i : ℕ) → i < k → number_at ns i ≡ number_at ms i) → among ns k e ≡ among ms k e
+unfolding among
+among_same ns ms zero e h = refl
+among_same ns ms (suc k) e h = ap₂ (λ x y. eqb x e || y) (h k (omega arith)) (among_same ns ms k e (λ i l. h i (omega arith)))
+
+-- so in the slice of them
+pub among_taken : (ns : List NodeId) (k e : ℕ) → k ≤ length ns → among (take k ns) (length (take k ns)) e ≡ among ns k e
+among_taken ns k e h =
+    ap (λ m. among (take k ns) m e) (length-take-le k ns h) ∙ among_same (take k ns) ns k e (λ i p. ap (λ (x : NodeId). x.0) (get_or-take k ns i (record { 0 = 0 }) p))
+
+pub below_taken : (n : ℕ) (ns : List NodeId) (k : ℕ) → k ≤ length ns → BelowFirst n ns k → BelowFirst n (take k ns) (length (take k ns))
+below_taken n ns k h b i p =
+    let e : number_at (take k ns) i ≡ number_at ns i = ap (λ (x : NodeId). x.0) (get_or-take k ns i (record { 0 = 0 }) (omega (arith, length-take-le k ns h))) in
+    omega (arith, e, b i (omega (arith, length-take-le k ns h)))
 
 pub among_at : (ns : List NodeId) (k i : ℕ) → i < k → among ns k (number_at ns i) ≡ true
 unfolding among

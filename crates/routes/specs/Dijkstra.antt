@@ -2,17 +2,17 @@
 use Rattle.std.specs.Prelude.{◌≡◌, ℕ, ◌+◌, ◌<◌, ◌≤◌, cond, ◌&&◌, ◌⊎◌, List, length, take, Option, MatchOption, nat_lt, slice_index, slice_index_or, slice_set}
 use Rattle.links.specs.declared.node.NodeId.{NodeId}
 use Rattle.theory.specs.Network.{Network}
-use Rattle.routes.specs.NodeLists.{number_at}
+use Rattle.routes.specs.NodeLists.{number_at, among}
 use Rattle.routes.specs.declared.node_list.NodeList.{NodeList}
 
 -- the distance once the link of that cost, to a node at the distance here, is taken into account
 abbrev pub relaxed : ℕ → ℕ → ℕ → ℕ
 relaxed cost here there = cond (nat_lt 0 cost && nat_lt (here + cost) there) (here + cost) there
 
--- so for each link of the node u at the distance here
-pub record Relaxes (z : Network) (u here : ℕ) (old new : List ℕ) : Type 0 where
+-- so for the links of the node u at the distance here to the first k of ns; what is known of other nodes stays
+pub record Relaxes (z : Network) (u here : ℕ) (ns : List NodeId) (k : ℕ) (old new : List ℕ) : Type 0 where
   pub size : length new ≡ length old
-  pub each : (e : ℕ) → e < z.n → slice_index new e ≡ relaxed (z.cost u e) here (slice_index old e)
+  pub each : (e : ℕ) → e < z.n → slice_index new e ≡ cond (among ns k e) (relaxed (z.cost u e) here (slice_index old e)) (slice_index old e)
 
 -- the least over the links of a node to others, where dist says how far those are; 2^32 - 1 where none is known to be anywhere
 pub record LeastOver (z : Network) (a : ℕ) (dist : List ℕ) (c : ℕ) : Type 0 where

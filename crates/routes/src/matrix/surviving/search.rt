@@ -21,7 +21,7 @@ impl<'a> Surviving<'a> {
         self.settle_rest(NodeList::below(self.nodes()), dist);
     }
 
-    // Dijkstra's algorithm: the nearest unsettled node is settled, and its links are relaxed.
+    // Dijkstra's algorithm: the nearest unsettled node is settled, and its links to the others are relaxed.
     pub(crate) fn settle_rest(&self, unsettled: NodeList, dist: &mut [u32])
         requires few { unsettled.count ≤ 64 }
         requires within { BelowFirst (surviving_network self.now).n unsettled.nodes unsettled.count }
@@ -30,16 +30,17 @@ impl<'a> Surviving<'a> {
     {
         let mut unsettled = unsettled;
         while let Some(u) = unsettled.take_nearest(dist) {
-            self.relax(u, dist[u.0 as usize], dist);
+            self.relax(u, dist[u.0 as usize], unsettled.as_slice(), dist);
         }
     }
 
-    // The links of a node at the distance here: no other end is farther than that and the link's cost.
-    fn relax(&self, u: NodeId, here: u32, dist: &mut [u32])
-        requires { (u.0 < (surviving_network self.now).n) × (length dist.old ≡ (surviving_network self.now).n) }
-        ensures { Relaxes (surviving_network self.now) u.0 here dist.old dist.new }
+    // The links of a node at the distance here to others: none of those is farther than that and the link's cost.
+    fn relax(&self, u: NodeId, here: u32, others: &[NodeId], dist: &mut [u32])
+        requires within { (u.0 < (surviving_network self.now).n) × (length dist.old ≡ (surviving_network self.now).n) }
+        requires others { BelowFirst (surviving_network self.now).n others.now (length others.now) }
+        ensures { Relaxes (surviving_network self.now) u.0 here others.now (length others.now) dist.old dist.new }
     {
-        for e in self.neighbours(u) {
+        for e in others {
             let there = dist[e.0 as usize];
             dist[e.0 as usize] = by_link(self.cost(u, *e), here, there);
         }
