@@ -3,3 +3,4 @@ pub mod Lawful
 pub mod Listed
 pub mod Pieces
 pub mod RoundTrip
+pub mod NodeBits

@@ -5,3 +5,4 @@ pub mod Topology
 pub mod Wire
 pub mod Unread
 pub mod Answer
+pub mod NodeSets

@@ -4,6 +4,7 @@
 pub mod fault;
 pub mod link;
 pub mod node;
+pub mod node_set;
 pub mod topology;
 pub mod unread;
 pub mod wire;
