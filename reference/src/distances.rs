@@ -3,6 +3,7 @@
 
 use crate::adjacency::Adjacency;
 use crate::node::{NodeId, NodeSet, MAX_NODES};
+use crate::topology::Link;
 
 /// Stands where there is no path: far above every distance, and sums with a
 /// cost don't overflow.
@@ -51,6 +52,41 @@ impl Distances {
         Distances(distances)
     }
 
+    /// The distances when a link fails that touches just these nodes: they begin with the
+    /// least over their links to the others, which keep theirs, and are settled like that.
+    pub fn without(&self, failed: Link, touched: NodeSet, network: &Adjacency) -> Distances {
+        let mut distances = self.0;
+        for node in touched {
+            let others = left(failed, node, network).minus(touched);
+            let over = |other: NodeId| self.0[other.index()] + network.cost(node, other);
+            distances[node.index()] = others.map(over).min().unwrap_or(NO_PATH).min(NO_PATH);
+        }
+        let mut unsettled = touched;
+        while let Some(nearest) = unsettled.min_by_key(|node| distances[node.index()]) {
+            unsettled.remove(nearest);
+            let distance = distances[nearest.index()];
+            for other in network.neighbours(nearest).and(unsettled) {
+                let best = &mut distances[other.index()];
+                *best = (*best).min(distance + network.cost(nearest, other));
+            }
+        }
+        Distances(distances)
+    }
+
+    /// The lowest-numbered neighbour on a path of least cost when a link fails, of which
+    /// these are the distances.
+    pub fn next_hop_without(
+        &self,
+        failed: Link,
+        node: NodeId,
+        network: &Adjacency,
+    ) -> Option<NodeId> {
+        let distance = self.distance(node)?;
+        left(failed, node, network).find(|&neighbour| {
+            network.cost(node, neighbour) + self.0[neighbour.index()] == distance
+        })
+    }
+
     /// `None` where there is no path.
     pub fn distance(&self, node: NodeId) -> Option<u32> {
         let distance = self.0[node.index()];
@@ -65,4 +101,16 @@ impl Distances {
             network.cost(node, neighbour) + self.0[neighbour.index()] == distance
         })
     }
+}
+
+/// The neighbours of a node when a link fails.
+fn left(failed: Link, node: NodeId, network: &Adjacency) -> NodeSet {
+    let [lower, higher] = failed.ends();
+    let mut neighbours = network.neighbours(node);
+    if node == lower {
+        neighbours.remove(higher);
+    } else if node == higher {
+        neighbours.remove(lower);
+    }
+    neighbours
 }

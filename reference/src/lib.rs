@@ -19,6 +19,7 @@ pub mod network;
 pub mod node;
 pub mod packet;
 pub mod plan;
+pub mod quick;
 pub mod random;
 pub mod repairs;
 pub mod report;

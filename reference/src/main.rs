@@ -13,7 +13,7 @@ use std::process::ExitCode;
 use std::str::FromStr;
 
 const HELP: &str = "\
-usage: reference lay [--summary] [FILE]
+usage: reference lay [--summary | --quick] [FILE]
        reference box NODE
        reference tear LINKS [SCRIPT]
        reference dense NODES
@@ -22,7 +22,8 @@ usage: reference lay [--summary] [FILE]
 
 lay     reads a list of links in bytes (standard input where no file is named)
         and prints distances, next-hop tables and repairs; with --summary, what
-        the failures of single links mean
+        the failures of single links mean; with --quick, the same as without, for
+        which only what a failed link touches is worked out anew
 box     is the router at NODE: reads frames from standard input, and writes what
         it hands on and says
 tear    reads a list of links in bytes and plays the network by a script
@@ -93,6 +94,7 @@ fn run_lay(words: &[&str]) -> Result<(), Failure> {
     for &word in words {
         match word {
             "--summary" => form = Form::Summary,
+            "--quick" => form = Form::QuickPlan,
             _ if word.starts_with('-') => {
                 return Err(Failure::Other(format!("unknown option {word}")));
             }

@@ -50,6 +50,11 @@ impl NodeSet {
         self.0 == 0
     }
 
+    /// The nodes of this set that are in `other`, too.
+    pub fn and(self, other: NodeSet) -> NodeSet {
+        NodeSet(self.0 & other.0)
+    }
+
     /// The nodes of this set that are not in `other`.
     pub fn minus(self, other: NodeSet) -> NodeSet {
         NodeSet(self.0 & !other.0)

@@ -52,7 +52,7 @@ pub fn protections(
 
 /// The end of the link whose next hop for the destination is the other end. It
 /// can't be both: each would be farther from the destination than the other.
-fn sender_over(link: Link, destination: NodeId, routes: &Routes) -> Option<NodeId> {
+pub fn sender_over(link: Link, destination: NodeId, routes: &Routes) -> Option<NodeId> {
     let [lower, higher] = link.ends();
     if routes.next_hop(lower, destination) == Some(higher) {
         Some(lower)

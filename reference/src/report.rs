@@ -1,10 +1,9 @@
 //! The plan that `lay` prints.
 
-use crate::adjacency::Adjacency;
 use crate::node::NodeId;
-use crate::repairs::{protections, Protection, Repair};
+use crate::repairs::{Protection, Repair};
 use crate::routes::Routes;
-use crate::topology::Topology;
+use crate::topology::{Link, Topology};
 
 /// A text that grows row by row.
 #[derive(Default)]
@@ -36,13 +35,14 @@ impl Report {
     }
 
     /// A row for each link, a column for each destination.
-    pub fn detours(&mut self, topology: &Topology, network: &Adjacency, routes: &Routes) {
+    /// `protections` says what each link's failure means for each destination.
+    pub fn detours(&mut self, topology: &Topology, protections: impl Fn(Link) -> Vec<Protection>) {
         self.text("detours");
         self.end_line();
         for &link in topology.links() {
             self.hop(link.lower, link.higher);
             self.text(":");
-            for protection in protections(link, topology, network, routes) {
+            for protection in protections(link) {
                 self.text(" ");
                 self.protection(protection);
             }

@@ -35,6 +35,10 @@ impl Routes {
         self.0[destination.index()].distances.distance(node)
     }
 
+    pub fn distances(&self, destination: NodeId) -> &Distances {
+        &self.0[destination.index()].distances
+    }
+
     /// `None` at the destination itself, and where there is no path.
     pub fn next_hop(&self, node: NodeId, destination: NodeId) -> Option<NodeId> {
         self.0[destination.index()].next_hops[node.index()]

@@ -1,10 +1,9 @@
 -- What distances in memory say of the next hops. Assumes nothing.
-use Rattle.std.proofs.Common.{◌≡◌, ℕ, ◌+◌, ◌<◌, ◌≤◌, eqb, ◌⊎◌, List, length, get_or, Some, None, Option, sym, refl, ap, ◌∙◌, subst, inl, inr, arith}
-use Rattle.std.proofs.lemmas.Bool.{ne_eqb, cases_lt, cases_eq, cases_Bool, cond-true, cond-false}
+use Rattle.std.proofs.Common.{◌≡◌, ℕ, ◌+◌, ◌<◌, ◌≤◌, true, eqb, ltb, ◌⊎◌, List, length, get_or, Some, None, Option, sym, refl, ap, ◌∙◌, subst, inl, inr, arith}
+use Rattle.std.proofs.lemmas.Bool.{ltb-true, lt-ltb, ne_eqb, cases_lt, cases_eq, cases_Bool, cond-true, cond-false}
 use Rattle.routes.specs.NextHops.{Near}
-use Rattle.routes.specs.NodeLists.{number_at}
-use Rattle.routes.specs.Neighbours.{Neighbours}
-use Rattle.routes.proofs.Unsettled.{among_some}
+use Rattle.links.specs.NodeSets.{has}
+use Rattle.links.specs.declared.node_set.NodeSet.{NodeSet}
 use Rattle.routes.specs.Distances.{decoded, Filled}
 use Rattle.theory.specs.NextHop.{next_hop, AsNear}
 use Rattle.theory.specs.Distance.{distance}
@@ -53,38 +52,30 @@ module _ (z : Network) (g : Lawful z) (s : Limited z) (d : ℕ) (l : List ℕ) (
         let j = filled_some a (z.cost a e + x.rest) p x.here in
         record { less = omega (arith, x.link); cost = omega arith }
 
-    module _ (ns : List NodeId) (h : Neighbours z a ns) where
-      -- the neighbour at i passes it
+    module _ (o : NodeSet) (h : (b : ℕ) → has o b ≡ ltb 0 (z.cost a b)) where
+      -- the neighbour y passes the test
       abbrev Passes : ℕ → Type 0
-      Passes i = Near (z.cost a (number_at ns i)) l (get_or l a 0) (number_at ns i)
+      Passes y = Near (z.cost a y) l (get_or l a 0) y
 
-      -- where each that is as near stands
-      passes : (y : ℕ) → AsNear z d a y → (i : ℕ) × (i < length ns) × (number_at ns i ≡ y) × Passes i
-      passes y x =
-          let w = among_some ns (length ns) y (h.all y x.link) in
-          (w.0, w.1, w.2, subst (λ v. Near (z.cost a v) l (get_or l a 0) v) (sym w.2) (next_near y x))
+      is_near : (y : ℕ) → AsNear z d a y → (has o y ≡ true) × Passes y
+      is_near y x = (h y ∙ lt-ltb 0 (z.cost a y) x.link, next_near y x)
 
       -- where none passes there is no next hop
-      pub hop_none : ((i : ℕ) → i < length ns → Passes i → ⊥) → None ≡ next_hop z d a
+      pub hop_none : ((y : ℕ) → has o y ≡ true → Passes y → ⊥) → None ≡ next_hop z d a
       hop_none n = go (next_hop z d a) refl
         where
           go : (x : Option ℕ) → next_hop z d a ≡ x → None ≡ next_hop z d a
           go None e = sym e
-          go (Some y) e = let i = passes y (next_hop_is z d a y e).near in absurd (n i.0 i.1 i.3)
+          go (Some y) e = let i = is_near y (next_hop_is z d a y e).near in absurd (n y i.0 i.1)
 
-      -- the first that passes is the next hop
-      pub hop_some : (i : ℕ) → i < length ns → Passes i → ((j : ℕ) → j < i → Passes j → ⊥) → Some (number_at ns i) ≡ next_hop z d a
-      hop_some i m n first =
-          sym (is_next_hop z g d a (number_at ns i) (record {
+      -- the lowest that passes is the next hop
+      pub hop_some : (e : ℕ) → has o e ≡ true → Passes e → ((y : ℕ) → y < e → has o y ≡ true → Passes y → ⊥) → Some e ≡ next_hop z d a
+      hop_some e m n first =
+          let q = (g.within a e (ltb-true 0 (z.cost a e) (sym (h e) ∙ m))).1 in
+          sym (is_next_hop z g d a e (record {
             elsewhere = λ x. omega (arith, n.less, filled_some a 0 p (ap (λ y. distance z d y) x ∙ distance_self z g d));
-            near = near_next (number_at ns i) (h.below i m) n;
+            near = near_next e q n;
             lowest = λ y x.
-                let j = passes y x in
-                elim (cases_lt j.0 i) [
-                  | inl q ↦ absurd (first j.0 q j.3)
-                  | inr q ↦ elim (cases_eq j.0 i) [
-                    | inl e ↦ omega (arith, ap (number_at ns) e, j.2)
-                    | inr e ↦ omega (arith, j.2, h.rising i j.0 (omega arith, j.1))
-                  ]
-                ];
+                let i = is_near y x in
+                elim (cases_lt y e) [ inl k ↦ absurd (first y k i.0 i.1) | inr k ↦ k ];
           }))

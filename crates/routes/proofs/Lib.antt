@@ -1,10 +1,10 @@
 pub mod Costs
-pub mod Linked
+pub mod Sets
 pub mod LeftNetwork
-pub mod Unsettled
 pub mod Settled
 pub mod Relaxing
 pub mod TouchedNodes
+pub mod Neighbours
 pub mod Starting
 pub mod HopsWithout
 pub mod Hops

@@ -1,13 +1,14 @@
 -- Dijkstra's algorithm: settled nodes keep their distances, and in the end each is the least. Assumes nothing.
 use Rattle.std.proofs.Common.{◌≡◌, ℕ, suc, ◌+◌, ◌<◌, ◌≤◌, Bool, true, false, ◌&&◌, eqb, ltb, ◌⊎◌, List, [], ◌∷◌, length, get_or, take, set, Some, None, sym, refl, ap, ◌∙◌, subst, inl, inr, arith, length-set, Option}
-use Rattle.std.proofs.lemmas.Bool.{both_ways, ltb-true, ltb-false, lt-ltb, eq-eqb, ne_eqb, cases_lt, and_parts, cases_eq, cases_Bool, and_cases, cond-true, cond-false, cond_both}
-use Rattle.std.proofs.lemmas.List.{length-take-le, get_or-set_same, get_or-set_other, get_or-take, get_or_default}
+use Rattle.std.proofs.lemmas.Bool.{both_ways, and_from, and_right, ltb-true, ltb-false, lt-ltb, eq-eqb, ne_eqb, cases_lt, and_parts, cases_eq, cases_Bool, and_cases, cond-true, cond-false, cond_both}
+use Rattle.std.proofs.lemmas.List.{get_or-set_same, get_or-set_other}
 use Rattle.routes.specs.Distances.{decoded, Filled}
-use Rattle.routes.specs.Dijkstra.{relaxed, Relaxes, NoneNearer, TakenAt}
-use Rattle.routes.specs.NodeLists.{number_at, Numbered, BelowFirst, among}
-use Rattle.routes.specs.Settling.{Partly, Unsettled, Standing}
-use Rattle.routes.specs.declared.node_list.NodeList.{NodeList}
-use Rattle.routes.proofs.Unsettled.{among_taken, among_at, among_some, all_unsettled, gone, same_unsettled, unsettled_less}
+use Rattle.routes.specs.Dijkstra.{relaxed, Relaxes, NoneNearer, Nearest}
+use Rattle.routes.specs.Settling.{Partly, Standing}
+use Rattle.links.specs.NodeSets.{has}
+use Rattle.links.specs.declared.node_set.NodeSet.{NodeSet}
+use Rattle.routes.proofs.Sets as sets
+use Rattle.routes.proofs.Sets.{left_in, gone, same_other}
 use Rattle.theory.specs.Distance.{IsPath, path_cost, distance, Found}
 use Rattle.theory.specs.Network.{Network, Lawful, Limited}
 use Rattle.theory.proofs.Distances.{distance_dist}
@@ -183,123 +184,56 @@ partly_all z g s d o f h none a l = elim (cases_lt (f a) 4294967295) [
         let w = sound z.n z d a c e in
         absurd (omega (arith, least w.nodes w.path, w.cost, bounded z g s d a c e))
 
-pub taken_few : (old new : NodeList) (dist : List ℕ) (u : NodeId) → TakenAt old new dist u → new.count ≤ length new.nodes
-taken_few old new dist u t = omega (arith, t.few, t.fewer, ap length t.nodes, length-set old.nodes t.at (get_or old.nodes new.count u))
-
--- what is left of nodes below n are such nodes
-pub taken_below : (n : ℕ) (old new : NodeList) (dist : List ℕ) (u : NodeId) → TakenAt old new dist u → BelowFirst n old.nodes old.count → BelowFirst n new.nodes new.count
-taken_below n old new dist u t b i p =
-    let v = get_or old.nodes new.count u in
-    let x : t.at < old.count = omega (arith, t.nearest.within, length-take-le old.count old.nodes t.few) in
-    let e : number_at new.nodes i ≡ number_at (set old.nodes t.at v) i = ap (λ ns. number_at ns i) t.nodes in
-    elim (cases_eq i t.at) [
-      | inl y ↦
-          let here = ap (λ (k : NodeId). k.0) (ap (λ j. get_or (set old.nodes t.at v) j (record { 0 = 0 })) y ∙ (get_or-set_same old.nodes t.at v (record { 0 = 0 }) (omega (arith, t.few)) ∙ get_or_default old.nodes new.count u (record { 0 = 0 }) (omega (arith, t.few, t.fewer)))) in
-          omega (arith, e, here, b new.count (omega (arith, t.fewer)))
-      | inr y ↦
-          let there = ap (λ (k : NodeId). k.0) (get_or-set_other old.nodes t.at i v (record { 0 = 0 }) y) in
-          omega (arith, e, there, b i (omega (arith, t.fewer)))
-    ]
-
 -- the same of what stands in memory
 module _ (z : Network) (g : Lawful z) (s : Limited z) (d : ℕ) where
-  pub stands_none : (l : NodeList) (dist : List ℕ) → length l.nodes ≡ 64 → Numbered l.nodes 64 → l.count ≡ z.n → d < z.n → length dist ≡ z.n → ((v : ℕ) → v < length dist → get_or dist v 0 ≡ 4294967295) → Standing z d l (set dist d 0)
-  stands_none l dist m q k h n e =
+  pub stands_none : (o : NodeSet) (dist : List ℕ) → ((v : ℕ) → has o v ≡ (ltb v z.n && ltb v 64)) → d < z.n → length dist ≡ z.n → ((v : ℕ) → v < length dist → get_or dist v 0 ≡ 4294967295) → Standing z d o (set dist d 0)
+  stands_none o dist q h n e =
       let here : get_or (set dist d 0) d 0 ≡ 0 = get_or-set_same dist d 0 0 (omega arith) in
       let others : (v : ℕ) → v < z.n → (v ≡ d → ⊥) → get_or (set dist d 0) v 0 ≡ 4294967295 =
       λ v p ne. get_or-set_other dist d v 0 0 ne ∙ e v (omega arith) in
       record {
-        unsettled = subst (λ j. Unsettled z.n l.nodes j) (sym k) (all_unsettled z.n l.nodes m q s.few);
+        within = λ v t. ltb-true v z.n (and_parts (ltb v z.n) (ltb v 64) (sym (q v) ∙ t)).0;
         size = length-set dist d 0 ∙ n;
         aim = h;
-        part = partly_none z g d (among l.nodes l.count) (λ v. get_or (set dist d 0) v 0)
-            (λ v p. subst (λ i. among l.nodes l.count i ≡ true) (q v (omega (arith, s.few))) (among_at l.nodes l.count v (omega arith))) here others;
+        part = partly_none z g d (has o) (λ v. get_or (set dist d 0) v 0) (λ v p. q v ∙ and_from (ltb v z.n) (ltb v 64) (lt-ltb v z.n p) (lt-ltb v 64 (omega (arith, s.few)))) here others;
       }
 
-  module _ (l : NodeList) (dist : List ℕ) (i : Standing z d l dist) where
-    abbrev k : ℕ
-    k = l.count
+  module _ (o : NodeSet) (dist : List ℕ) (i : Standing z d o dist) where
+    pub stands_all : NoneNearer o dist → Filled z d dist
+    stands_all n = record { size = i.size; each = λ a h. partly_all z g s d (has o) (λ v. get_or dist v 0) i.part (λ v p q. n v q) a h }
 
-    abbrev ns : List NodeId
-    ns = l.nodes
+    -- the nearest of them is settled
+    module _ (u : NodeId) (n : Nearest o dist u.0) (less : NodeSet) (t : sets.Less u.0 o less) where
+      picks_of : Picks z (has o) (λ v. get_or dist v 0) u.0
+      picks_of = record { within = i.within u.0 n.in_set; free = n.in_set; some = n.some; least = λ v p q. n.least v q }
 
-    number_taken : (j : ℕ) → j < length (take k ns) → (j < k) × (number_at (take k ns) j ≡ number_at ns j)
-    number_taken j h =
-        let q : j < k = omega (arith, length-take-le k ns (omega (arith, i.unsettled.size, i.unsettled.few))) in
-        (q, ap (λ (v : NodeId). v.0) (get_or-take k ns j (record { 0 = 0 }) q))
+      less_of : Less u.0 (has o) (has less)
+      less_of = record { here = gone o less u.0 t; others = λ v ne. same_other o less u.0 t v ne }
 
-    still_length : (j : ℕ) → j < k → j < length (take k ns)
-    still_length j h = omega (arith, length-take-le k ns (omega (arith, i.unsettled.size, i.unsettled.few)))
-
-    pub stands_all : NoneNearer (take k ns) dist → Filled z d dist
-    stands_all n = record {
-      size = i.size;
-      each = λ a h. partly_all z g s d (among ns k) (λ v. get_or dist v 0) i.part
-          (λ v p q.
-          let w = among_some ns k v q in
-          let j = still_length w.0 w.1 in
-          let e = (number_taken w.0 j).1 ∙ w.2 in
-          subst (λ x. 4294967295 ≤ get_or dist x 0) e (n w.0 j))
-          a h;
-    }
-
-    -- the nearest of them is settled, and the last one takes its place
-    module _ (more : NodeList) (u : NodeId) (t : TakenAt l more dist u) where
-      abbrev x : ℕ
-      x = t.at
-
-      at_x : (x < k) × (number_at (take k ns) x ≡ number_at ns x)
-      at_x = number_taken x t.nearest.within
-
-      is_u : number_at ns x ≡ u.0
-      is_u = sym (ap (λ (v : NodeId). v.0) (t.node ∙ get_or_default ns x u (record { 0 = 0 }) (omega (arith, at_x.0, i.unsettled.size, i.unsettled.few))))
-
-      dist_x : get_or dist (number_at (take k ns) x) 0 ≡ get_or dist u.0 0
-      dist_x = ap (λ v. get_or dist v 0) (at_x.1 ∙ is_u)
-
-      picks_of : Picks z (among ns k) (λ v. get_or dist v 0) u.0
-      picks_of = record {
-        within = omega (arith, is_u, i.unsettled.within x at_x.0);
-        free = subst (λ v. among ns k v ≡ true) is_u (among_at ns k x at_x.0);
-        some = omega (arith, t.nearest.some, dist_x);
-        least = λ v p q.
-            let w = among_some ns k v q in
-            let j = still_length w.0 w.1 in
-            let e : get_or dist (number_at (take k ns) w.0) 0 ≡ get_or dist v 0 = ap (λ y. get_or dist y 0) ((number_taken w.0 j).1 ∙ w.2) in
-            omega (arith, t.nearest.least w.0 j, dist_x);
-      }
-
-      opened : Unsettled z.n ns (suc more.count)
-      opened = subst (λ j. Unsettled z.n ns j) (omega (arith, t.fewer)) i.unsettled
-
-      below : x < suc more.count
-      below = omega (arith, at_x.0, t.fewer)
-
-      moved : more.nodes ≡ set ns x (get_or ns more.count (record { 0 = 0 }))
-      moved = t.nodes ∙ ap (set ns x) (get_or_default ns more.count u (record { 0 = 0 }) (omega (arith, t.fewer, i.unsettled.size, i.unsettled.few)))
-
-      less_of : Less u.0 (among ns k) (among more.nodes more.count)
-      less_of = rw moved (record {
-        here = subst (λ v. among (set ns x (get_or ns more.count (record { 0 = 0 }))) more.count v ≡ false) is_u (gone z.n ns more.count opened x below);
-        others = λ v ne. same_unsettled z.n ns more.count opened x below v (λ e. ne (e ∙ is_u)) ∙ ap (λ j. among ns j v) (omega (arith, t.fewer));
-      })
-
-      pub stands_more : (ns' : List NodeId) (new : List ℕ) → ns' ≡ take more.count more.nodes → Relaxes z u.0 (get_or dist u.0 0) ns' (length ns') dist new → Standing z d more new
-      stands_more ns' new q r =
-          let free : (e : ℕ) → among ns' (length ns') e ≡ among more.nodes more.count e = λ e. ap (λ xs. among xs (length xs) e) q ∙ among_taken more.nodes more.count e (taken_few l more dist u t) in
+      pub stands_more : (to : NodeSet) (new : List ℕ) → ((e : ℕ) → has to e ≡ (ltb 0 (z.cost u.0 e) && has less e)) → Relaxes z u.0 (get_or dist u.0 0) to dist new → Standing z d less new
+      stands_more to new q r =
+          let c = λ (e : ℕ). relaxed (z.cost u.0 e) (get_or dist u.0 0) (get_or dist e 0) in
           record {
-            unsettled = rw moved (unsettled_less z.n ns more.count opened x below);
+            within = λ v h. i.within v (left_in o less u.0 t v h);
             size = r.size ∙ i.size;
             aim = i.aim;
-            part = partly_more z d (among ns k) (among more.nodes more.count) (λ v. get_or dist v 0) (λ v. get_or new v 0) u.0 (record {
+            part = partly_more z d (has o) (has less) (λ v. get_or dist v 0) (λ v. get_or new v 0) u.0 (record {
               lawful = g;
               before = i.part;
               aim = i.aim;
               picks = picks_of;
               less = less_of;
               relaxes = λ e h p.
-                  subst (Relaxed (z.cost u.0 e) (get_or dist u.0 0) (get_or dist e 0)) (sym (r.each e h ∙ cond-true (among ns' (length ns') e) (relaxed (z.cost u.0 e) (get_or dist u.0 0) (get_or dist e 0)) (get_or dist e 0) (free e ∙ p)))
-                  (relaxed_is (z.cost u.0 e) (get_or dist u.0 0) (get_or dist e 0));
-              kept = λ e h p. r.each e h ∙ cond-false (among ns' (length ns') e) (relaxed (z.cost u.0 e) (get_or dist u.0 0) (get_or dist e 0)) (get_or dist e 0) (free e ∙ p);
+                  let x = relaxed_is (z.cost u.0 e) (get_or dist u.0 0) (get_or dist e 0) in
+                  subst (Relaxed (z.cost u.0 e) (get_or dist u.0 0) (get_or dist e 0)) (sym (r.each e h)) (elim (cases_Bool (has to e)) [
+                    | inl y ↦ subst (Relaxed (z.cost u.0 e) (get_or dist u.0 0) (get_or dist e 0)) (sym (cond-true (has to e) (c e) (get_or dist e 0) y)) x
+                    | inr y ↦
+                        let none : z.cost u.0 e ≡ 0 = elim (cases_lt 0 (z.cost u.0 e)) [
+                          | inl k ↦ absurd (both_ways (has to e) y (q e ∙ and_from (ltb 0 (z.cost u.0 e)) (has less e) (lt-ltb 0 (z.cost u.0 e) k) p))
+                          | inr k ↦ omega arith
+                        ] in
+                        subst (Relaxed (z.cost u.0 e) (get_or dist u.0 0) (get_or dist e 0)) (sym (cond-false (has to e) (c e) (get_or dist e 0) y)) (record { less = omega arith; over = λ k. absurd (omega arith); one = inl refl })
+                  ]);
+              kept = λ e h p. r.each e h ∙ cond-false (has to e) (c e) (get_or dist e 0) (q e ∙ and_right (ltb 0 (z.cost u.0 e)) (has less e) p);
             });
           }

@@ -1,74 +1,83 @@
 -- Which nodes a failed link touches, one after another. Assumes nothing.
-use Rattle.std.proofs.Common.{◌≡◌, ℕ, ◌<◌, Bool, true, false, cond, List, length, get_or, set, replicate, Some, None, Option, sym, ap, ◌∙◌, inl, inr, arith}
-use Rattle.std.proofs.lemmas.Bool.{cases_eq, cases_lt, cases_Bool, cond-true, cond-false}
-use Rattle.std.proofs.lemmas.List.{get_or-set_same, get_or-set_other}
+use Rattle.std.proofs.Common.{◌≡◌, ℕ, ◌<◌, ◌≤◌, Bool, true, false, not, ◌&&◌, ◌||◌, eqb, ltb, ◌⊎◌, Some, sym, refl, ap, ◌∙◌, subst, inl, inr, arith}
+use Rattle.std.proofs.lemmas.Bool.{both_ways, cases_eq, cases_lt, cases_Bool, eq-eqb, ne_eqb, lt-ltb, le-ltb, and_from, and_left, and_right, or_left, or_right}
 use Rattle.theory.specs.Network.{Network, Lawful, Limited, LinkId}
 use Rattle.theory.specs.NextHop.{uses, next_hop}
 use Rattle.theory.proofs.NextHops.{next_hop_is}
-use Rattle.routes.specs.NodeLists.{among}
-use Rattle.routes.specs.Neighbours.{Linked}
-use Rattle.routes.specs.Touched.{Touched, Known}
-use Rattle.routes.specs.declared.node_list.NodeList.{NodeList}
-use Rattle.links.proofs.Arrays.{all_alike}
-use Rattle.routes.proofs.Unsettled.{among_some}
+use Rattle.links.specs.NodeSets.{has}
+use Rattle.links.specs.declared.node_set.NodeSet.{NodeSet}
+use Rattle.routes.specs.Touched.{Touched, Known, Noted}
+use Rattle.routes.specs.declared.routes.touched.Memo.{Memo}
 
 -- nothing is known at first
-pub known_none : (z : Network) (r : LinkId) (d : ℕ) → Known z r d (replicate 64 None)
-known_none z r d a b e = absurd (never b (sym (all_alike None 64 a) ∙ e))
-  where
-    is_none : Option Bool → ℕ
-    is_none None = 0
-    is_none (Some x) = 1
-
-    never : (b : Bool) → None ≡ Some b → ⊥
-    never b e = omega (arith, ap is_none e)
-
-some_bool : (x y : Bool) → Some x ≡ Some y → x ≡ y
-some_bool x y e = ap (λ o. of o) e
-  where
-    of : Option Bool → Bool
-    of None = true
-    of (Some b) = b
-
--- one node more is known
-pub known_more : (z : Network) (r : LinkId) (d a : ℕ) (x : Bool) (l : List (Option Bool)) → a < length l → Known z r d l → x ≡ uses z r d a → Known z r d (set l a (Some x))
-known_more z r d a x l size h q b y e = elim (cases_eq b a) [
-  | inl k ↦ sym (some_bool x y (sym (get_or-set_same l a (Some x) None size) ∙ (ap (λ i. get_or (set l a (Some x)) i None) (sym k) ∙ e))) ∙ (q ∙ ap (uses z r d) (sym k))
-  | inr k ↦ h b y (sym (get_or-set_other l a b (Some x) None k) ∙ e)
-]
+pub known_none : (z : Network) (r : LinkId) (d : ℕ) (m : Memo) → ((u : ℕ) → has m.known u ≡ false) → ((u : ℕ) → has m.touched u ≡ false) → Known z r d m
+known_none z r d m k t = record {
+  is = λ a h. absurd (both_ways (has m.known a) (k a) h);
+  only = λ a h. absurd (both_ways (has m.touched a) (t a) h);
+  below = λ a h. absurd (both_ways (has m.known a) (k a) h);
+}
 
 pub hop_within : (z : Network) → Lawful z → (d a e : ℕ) → Some e ≡ next_hop z d a → e < z.n
 hop_within z g d a e h = (g.within a e (next_hop_is z d a e (sym h)).near.link).1
 
--- 1 for a touched node, 0 for another
-abbrev pub mark : Network → LinkId → ℕ → ℕ → ℕ
-mark z r d a = cond (uses z r d a) 1 0
+-- one more is in the set
+abbrev pub More : ℕ → (old new : NodeSet) → Type 0
+More u old new = (v : ℕ) → has new v ≡ ((eqb v u && ltb v 64) || has old v)
 
-pub marked : (z : Network) (r : LinkId) (d a : ℕ) → uses z r d a ≡ true → 0 < mark z r d a
-marked z r d a t = omega (arith, cond-true {A = ℕ} (uses z r d a) 1 0 t)
+module _ (u : ℕ) (old new : NodeSet) (m : More u old new) where
+  pub more_in : u < 64 → has new u ≡ true
+  more_in l = m u ∙ or_left (eqb u u && ltb u 64) (has old u) (and_from (eqb u u) (ltb u 64) (eq-eqb u u refl) (lt-ltb u 64 l))
 
-pub unmarked : (z : Network) (r : LinkId) (d a : ℕ) → uses z r d a ≡ false → mark z r d a ≡ 0
-unmarked z r d a t = cond-false {A = ℕ} (uses z r d a) 1 0 t
+  pub more_same : (v : ℕ) → (v ≡ u → ⊥) → has new v ≡ has old v
+  more_same v h = m v ∙ ap (λ b. (b && ltb v 64) || has old v) (ne_eqb v u h)
 
--- a list of all of them
-pub touched_by : (z : Network) → Limited z → (r : LinkId) (d k : ℕ) (l : NodeList) → k ≡ z.n → Linked k (mark z r d) l → Touched z r d l
-touched_by z s r d k l q h = record {
-  nodes = record {
-    size = h.size;
-    few = omega (arith, h.few, s.few);
-    within = λ i p. omega (arith, h.below i p);
-    distinct = λ i j p o e. elim (cases_eq i j) [
-      | inl x ↦ x
-      | inr x ↦ absurd (elim (cases_lt i j) [ inl y ↦ omega (arith, h.rising i j (y, o)) | inr y ↦ omega (arith, h.rising j i (omega arith, p)) ])
+  pub more_still : (v : ℕ) → has old v ≡ true → has new v ≡ true
+  more_still v h = m v ∙ or_right (eqb v u && ltb v 64) (has old v) h
+
+-- a is noted
+pub noted : (z : Network) → Limited z → (r : LinkId) (d a : ℕ) (old m new : Memo) (b : Bool) → a < z.n → Known z r d m → b ≡ uses z r d a → ((v : ℕ) → has old.known v ≡ true → has m.known v ≡ true) →
+    More a m.known new.known → ((v : ℕ) → has new.touched v ≡ ((b && (eqb v a && ltb v 64)) || has m.touched v)) → Noted z r d a old new
+noted z s r d a old m new b l h q still mk mt = record {
+  still = record {
+    is = λ v y. elim (cases_eq v a) [
+      | inl e ↦ rw e (here ∙ q)
+      | inr e ↦ there v e ∙ h.is v (sym (more_same a m.known new.known mk v e) ∙ y)
     ];
+    only = λ v y. elim (cases_eq v a) [
+      | inl e ↦ rw e (more_in a m.known new.known mk (omega (arith, s.few)))
+      | inr e ↦ more_still a m.known new.known mk v (h.only v (sym (there v e) ∙ y))
+    ];
+    below = λ v y. elim (cases_eq v a) [ inl e ↦ omega arith | inr e ↦ h.below v (sym (more_same a m.known new.known mk v e) ∙ y) ];
   };
-  each = λ a p. elim (cases_Bool (uses z r d a)) [
-    | inl t ↦ h.all a (omega arith) (marked z r d a t) ∙ sym t
-    | inr t ↦ elim (cases_Bool (among l.nodes l.count a)) [
-      | inr u ↦ u ∙ sym t
-      | inl u ↦
-          let w = among_some l.nodes l.count a u in
-          absurd (omega (arith, ap (mark z r d) w.2, h.only w.0 w.1, unmarked z r d a t))
-    ]
-  ];
+  this = more_in a m.known new.known mk (omega (arith, s.few));
+  kept = λ v y. more_still a m.known new.known mk v (still v y);
 }
+  where
+    this_one : (eqb a a && ltb a 64) ≡ true
+    this_one = and_from (eqb a a) (ltb a 64) (eq-eqb a a refl) (lt-ltb a 64 (omega (arith, s.few)))
+
+    here : has new.touched a ≡ b
+    here = mt a ∙ (ap (λ x. (b && x) || has m.touched a) this_one ∙ elim (cases_Bool b) [
+      | inl x ↦ ap (λ c. (c && true) || has m.touched a) x ∙ sym x
+      | inr x ↦ ap (λ c. (c && true) || has m.touched a) x ∙ (elim (cases_Bool (has m.touched a)) [
+        | inr y ↦ y
+        | inl y ↦ h.is a (h.only a y) ∙ (sym q ∙ x)
+      ] ∙ sym x)
+    ])
+
+    there : (v : ℕ) → (v ≡ a → ⊥) → has new.touched v ≡ has m.touched v
+    there v e = mt v ∙ ap (λ x. x || has m.touched v) (and_right b (eqb v a && ltb v 64) (ap (λ x. x && ltb v 64) (ne_eqb v a e)))
+
+-- a was known already
+pub noted_before : (z : Network) (r : LinkId) (d a : ℕ) (m : Memo) → Known z r d m → has m.known a ≡ true → Noted z r d a m m
+noted_before z r d a m h y = record { still = h; this = y; kept = λ b k. k }
+
+-- all are known
+pub touched_all : (z : Network) (r : LinkId) (d k : ℕ) (m : Memo) → k ≡ z.n → Known z r d m → ((a : ℕ) → a < k → has m.known a ≡ true) → Touched z r d m.touched
+touched_all z r d k m e h all a = elim (cases_lt a z.n) [
+  | inl l ↦ h.is a (all a (omega arith)) ∙ sym (ap (λ b. b && uses z r d a) (lt-ltb a z.n l))
+  | inr l ↦ elim (cases_Bool (has m.touched a)) [
+    | inl y ↦ absurd (omega (arith, h.below a (h.only a y)))
+    | inr y ↦ y ∙ sym (ap (λ b. b && uses z r d a) (le-ltb a z.n l))
+  ]
+]

@@ -4,7 +4,6 @@ pub mod Dijkstra
 pub mod Matrix
 pub mod Neighbours
 pub mod NextHops
-pub mod NodeLists
 pub mod Routes
 pub mod Settling
 pub mod Surviving

@@ -2,5 +2,4 @@
 #![tactic(auto)]
 
 pub mod matrix;
-mod node_list;
 pub mod routes;

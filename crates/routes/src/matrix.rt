@@ -1,11 +1,10 @@
 ghost use Rattle.std.specs.Prelude.{◌≡◌, ◌+◌, ◌*◌, ◌<◌, ◌≤◌, ◌⊎◌, ◌↔◌, IsTrue, MatchOption};
 ghost use Rattle.links.specs.Links.{IsNodeCount};
-ghost use Rattle.routes.specs.Costs.{cost_at, put, Symmetric, Loopless, Light};
-ghost use Rattle.routes.specs.Neighbours.{FewEach, BelowEach, RisingEach, AllLinked};
-ghost use Rattle.routes.specs.NodeLists.{list_at};
+ghost use Rattle.routes.specs.Costs.{put, Symmetric, Loopless, Light};
+ghost use Rattle.routes.specs.Neighbours.{LinkedEach};
 
-use crate::node_list::NodeList;
 use links::node::NodeId;
+use links::node_set::NodeSet;
 use std::ops::Range;
 
 pub mod build;
@@ -17,21 +16,18 @@ pub mod rows;
 pub mod surviving;
 pub mod without;
 
-// What the links of a network cost, in rows of 64, a row for each node: 0 where there is no link, as in the theory; and for
-// each node its neighbours, perhaps with some to which a link has failed. Arrays, as forwarding has no heap.
+// What the links of a network cost, in rows of 64, a row for each node: 0 where there is no link, as in the theory; and the
+// neighbours of each. Arrays, as forwarding has no heap.
 #[derive(Drop)]
 pub struct CostMatrix {
     nodes: u8,
     costs: [u16; 4096],
-    neighbours: [NodeList; 64],
+    neighbours: [NodeSet; 64],
     ghost few: { IsNodeCount nodes },
     ghost symmetric: { Symmetric nodes costs },
     ghost loopless: { Loopless nodes costs },
     ghost light: { Light nodes costs },
-    ghost few_each: { FewEach nodes neighbours },
-    ghost below: { BelowEach nodes neighbours },
-    ghost rising: { RisingEach nodes neighbours },
-    ghost linked: { AllLinked nodes costs neighbours },
+    ghost linked: { LinkedEach nodes costs neighbours },
 }
 
 // Where the entry of b stands in row a, in rows of 64. There is no type for such a table: tables are lent as slices, a form

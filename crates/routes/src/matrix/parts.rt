@@ -1,11 +1,12 @@
-ghost use Rattle.std.specs.Prelude.{◌≡◌, ◌<◌};
+ghost use Rattle.std.specs.Prelude.{◌≡◌, ℕ, ◌<◌, nat_lt};
 ghost use Rattle.links.specs.Links.{IsNodeCount};
+ghost use Rattle.links.specs.NodeSets.{has};
 ghost use Rattle.routes.specs.Costs.{link_cost};
 ghost use Rattle.routes.specs.Matrix.{matrix_network};
-ghost use Rattle.routes.specs.Neighbours.{Neighbours};
 
 use super::{CostMatrix, cell};
 use links::node::NodeId;
+use links::node_set::NodeSet;
 
 impl CostMatrix {
     // How many nodes there are: 1 to 64.
@@ -34,11 +35,11 @@ impl CostMatrix {
         self.costs[cell(a, b)]
     }
 
-    // The nodes to which a node has a link, in rising order, perhaps with some to which a link has failed.
-    pub(crate) fn neighbours(&self, a: NodeId) -> &[NodeId]
+    // The nodes to which a node has a link.
+    pub(crate) fn neighbours(&self, a: NodeId) -> NodeSet
         requires { a.0 < (matrix_network self.now).n }
-        ensures { Neighbours (matrix_network self.now) a.0 result.now }
+        ensures { (b : ℕ) → has result b ≡ nat_lt 0 ((matrix_network self.now).cost a.0 b) }
     {
-        self.neighbours[a.0 as usize].as_slice()
+        self.neighbours[a.0 as usize]
     }
 }

@@ -4,6 +4,7 @@ ghost use Rattle.links.specs.Link.{ends};
 ghost use Rattle.routes.specs.Costs.{Left};
 ghost use Rattle.routes.specs.Matrix.{matrix_network};
 
+use super::neighbours::neighbours_by;
 use super::{CostMatrix, put};
 use links::link::LinkId;
 
@@ -13,8 +14,8 @@ impl CostMatrix {
         ensures { matrix_network result ≡ without (ends link) (matrix_network self.now) }
     {
         let nodes = self.nodes;
-        let neighbours = self.neighbours;
         let costs = self.costs_without(link);
+        let neighbours = neighbours_by(nodes, &costs);
         CostMatrix {
             nodes,
             costs,

@@ -8,13 +8,12 @@ ghost use Rattle.theory.specs.Network.{without};
 ghost use Rattle.theory.specs.NextHop.{next_hop};
 
 use super::Routes;
-use crate::matrix::distances::NEVER;
 use crate::matrix::row_of;
 use crate::matrix::surviving::Surviving;
-use crate::node_list::NodeList;
 use links::fault::Fault;
 use links::link::LinkId;
 use links::node::NodeId;
+use links::node_set::NodeSet;
 
 impl Routes {
     // The distance of each node from d, or NEVER, when a link fails, into dist.
@@ -58,26 +57,25 @@ impl Routes {
         let touched = self.touched(link, d);
         self.settle_without(link, d, touched, dist);
         let left = Surviving::without(&self.costs, link);
-        for a in touched.as_slice() {
-            hops[a.0 as usize] = left.hop_of(*a, dist);
+        let mut rest = touched;
+        while let Some(a) = rest.take_first() {
+            hops[a.0 as usize] = left.hop_of(a, dist);
         }
     }
 
     // The distances from d when a link fails that touches just these nodes: each begins with the least over its links to
-    // others, and then they are settled.
-    fn settle_without(&self, link: LinkId, d: NodeId, touched: NodeList, dist: &mut [u32])
+    // nodes that it doesn't touch, and then they are settled.
+    fn settle_without(&self, link: LinkId, d: NodeId, touched: NodeSet, dist: &mut [u32])
         requires within { d.0 < (routes_network self.now).n }
         requires size { length dist.old ≡ (routes_network self.now).n }
         requires touched { Touched (routes_network self.now) (ends link) d.0 touched }
         ensures { Filled (without (ends link) (routes_network self.now)) d.0 dist.new }
     {
         dist.copy_from_slice(self.distances_from(d));
-        for a in touched.as_slice() {
-            dist[a.0 as usize] = NEVER;
-        }
         let left = Surviving::without(&self.costs, link);
-        for a in touched.as_slice() {
-            dist[a.0 as usize] = left.least_over(*a, dist);
+        let mut rest = touched;
+        while let Some(a) = rest.take_first() {
+            dist[a.0 as usize] = left.least_over(a, left.neighbours(a).minus(touched), dist);
         }
         left.settle_rest(touched, dist);
     }

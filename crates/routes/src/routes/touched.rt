@@ -1,47 +1,68 @@
-ghost use Rattle.std.specs.Prelude.{◌≡◌, ◌<◌};
+ghost use Rattle.std.specs.Prelude.{◌≡◌, ℕ, ◌<◌, ◌&&◌, ◌||◌, ◌==◌, nat_lt};
 ghost use Rattle.links.specs.Link.{ends};
+ghost use Rattle.links.specs.NodeSets.{has};
 ghost use Rattle.routes.specs.NextHops.{hop_of};
 ghost use Rattle.routes.specs.Routes.{routes_network};
-ghost use Rattle.routes.specs.Touched.{Known, Touched};
+ghost use Rattle.routes.specs.Touched.{Known, Noted, Touched};
 ghost use Rattle.theory.specs.NextHop.{next_hop, uses};
 
 use super::Routes;
 use crate::matrix::cell;
-use crate::node_list::NodeList;
 use links::link::LinkId;
 use links::node::NodeId;
+use links::node_set::NodeSet;
+
+// The nodes of which it is known whether their paths use a link, and those of them whose paths do.
+#[derive(Clone, Copy)]
+pub(crate) struct Memo {
+    known: NodeSet,
+    touched: NodeSet,
+}
+
+impl Memo {
+    // Of the node a it is known now.
+    fn note(&mut self, a: NodeId, touched: bool)
+        ensures known { (v : ℕ) → has self.new.known v ≡ ((v == a.0 && nat_lt v 64) || has self.old.known v) }
+        ensures touched { (v : ℕ) → has self.new.touched v ≡ ((touched && (v == a.0 && nat_lt v 64)) || has self.old.touched v) }
+    {
+        self.known.insert(a);
+        if touched {
+            self.touched.insert(a);
+        }
+    }
+}
 
 impl Routes {
     // The nodes whose path to d uses the link.
-    pub(super) fn touched(&self, link: LinkId, d: NodeId) -> NodeList
+    pub(super) fn touched(&self, link: LinkId, d: NodeId) -> NodeSet
         requires { d.0 < (routes_network self.now).n }
         ensures { Touched (routes_network self.now) (ends link) d.0 result }
     {
-        let mut known = [None; 64];
-        let mut list = NodeList::none();
+        let mut memo = Memo {
+            known: NodeSet::empty(),
+            touched: NodeSet::empty(),
+        };
         for a in 0..self.nodes() {
-            if self.is_touched(link, d, NodeId(a), &mut known) {
-                list.push(NodeId(a));
-            }
+            self.is_touched(link, d, NodeId(a), &mut memo);
         }
-        list
+        memo.touched
     }
 
-    // Does the path of a node to d use it? What is found is kept, so that no path is followed twice.
-    fn is_touched(&self, link: LinkId, d: NodeId, a: NodeId, known: &mut [Option<bool>; 64]) -> bool
+    // Does the path of a node to d use it? What is found is noted, so that no path is followed twice.
+    fn is_touched(&self, link: LinkId, d: NodeId, a: NodeId, memo: &mut Memo) -> bool
         requires within { (d.0 < (routes_network self.now).n) × (a.0 < (routes_network self.now).n) }
-        requires so_far { Known (routes_network self.now) (ends link) d.0 known.old }
+        requires so_far { Known (routes_network self.now) (ends link) d.0 memo.old }
         ensures value { result ≡ uses (routes_network self.now) (ends link) d.0 a.0 }
-        ensures known { Known (routes_network self.now) (ends link) d.0 known.new }
+        ensures known { Noted (routes_network self.now) (ends link) d.0 a.0 memo.old memo.new }
     {
-        if let Some(touched) = known[a.0 as usize] {
-            return touched;
+        if memo.known.contains(a) {
+            return memo.touched.contains(a);
         }
         let touched = match self.hop(d, a) {
-            Some(e) => link.joins(a, e) || self.is_touched(link, d, e, known),
+            Some(e) => link.joins(a, e) || self.is_touched(link, d, e, memo),
             None => false,
         };
-        known[a.0 as usize] = Some(touched);
+        memo.note(a, touched);
         touched
     }
 

@@ -25,10 +25,11 @@ impl<'a> Surviving<'a> {
         let here = dist[a.0 as usize];
         // a loop left by its label at the first that is as near, and not a chain: a rule of the project
         let mut found = None;
-        'nearest: for e in self.neighbours(a) {
+        let mut rest = self.neighbours(a);
+        'nearest: while let Some(e) = rest.take_first() {
             let there = dist[e.0 as usize];
-            if there < here && here - there == u32::from(self.cost(a, *e)) {
-                found = Some(*e);
+            if there < here && here - there == u32::from(self.cost(a, e)) {
+                found = Some(e);
                 break 'nearest;
             }
         }

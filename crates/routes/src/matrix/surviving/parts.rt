@@ -1,14 +1,15 @@
-ghost use Rattle.std.specs.Prelude.{◌≡◌, ◌<◌, Some, None};
-ghost use Rattle.routes.specs.Matrix.{matrix_network};
-ghost use Rattle.routes.specs.Neighbours.{Neighbours};
-ghost use Rattle.routes.specs.Surviving.{left_by, surviving_network};
-ghost use Rattle.theory.specs.Network.{without};
+ghost use Rattle.std.specs.Prelude.{◌≡◌, ℕ, ◌<◌, false, ◌==◌, nat_lt, MatchOption};
 ghost use Rattle.links.specs.Link.{ends};
+ghost use Rattle.links.specs.NodeSets.{has};
+ghost use Rattle.routes.specs.Matrix.{matrix_network};
+ghost use Rattle.routes.specs.Surviving.{surviving_network};
+ghost use Rattle.theory.specs.Network.{joins, without};
 
 use super::Surviving;
 use crate::matrix::CostMatrix;
 use links::link::LinkId;
 use links::node::NodeId;
+use links::node_set::NodeSet;
 
 impl<'a> Surviving<'a> {
     // All of a network.
@@ -37,22 +38,36 @@ impl<'a> Surviving<'a> {
         self.costs.nodes()
     }
 
-    // What the link between two nodes costs, 0 where there is none.
+    // What a link costs that is left.
     pub(super) fn cost(&self, a: NodeId, b: NodeId) -> u16
-        requires { (a.0 < (surviving_network self.now).n) × (b.0 < (surviving_network self.now).n) }
+        requires { 0 < (surviving_network self.now).cost a.0 b.0 }
         ensures { result ≡ (surviving_network self.now).cost a.0 b.0 }
     {
-        match self.failed {
-            Some(link) if link.joins(a, b) => 0,
-            _ => self.costs.cost_of(a, b),
-        }
+        self.costs.cost_of(a, b)
     }
 
-    // The nodes to which a node has a link, in rising order; the failed link's too.
-    pub(super) fn neighbours(&self, a: NodeId) -> &'a [NodeId]
+    // The nodes to which a node has a link that is left.
+    pub(crate) fn neighbours(&self, a: NodeId) -> NodeSet
         requires { a.0 < (surviving_network self.now).n }
-        ensures { Neighbours (surviving_network self.now) a.0 result.now }
+        ensures { (b : ℕ) → has result b ≡ nat_lt 0 ((surviving_network self.now).cost a.0 b) }
     {
-        self.costs.neighbours(a)
+        let all = self.costs.neighbours(a);
+        match self.failed {
+            Some(link) => all.minus(beyond(link, a)),
+            None => all,
+        }
+    }
+}
+
+// The node at the other end of a link from a, if a is one of its ends.
+fn beyond(link: LinkId, a: NodeId) -> NodeSet
+    ensures { (b : ℕ) → b < 64 → has result b ≡ joins (ends link) a.0 b }
+{
+    if a == link.a {
+        NodeSet::only(link.b)
+    } else if a == link.b {
+        NodeSet::only(link.a)
+    } else {
+        NodeSet::empty()
     }
 }

@@ -1,14 +1,14 @@
-ghost use Rattle.std.specs.Prelude.{◌≡◌, ℕ, ◌<◌, ◌≤◌, length};
-ghost use Rattle.routes.specs.Dijkstra.{LeastOver, Relaxes, relaxed};
+ghost use Rattle.std.specs.Prelude.{◌≡◌, ℕ, ◌<◌, true, length, slice_index};
+ghost use Rattle.links.specs.NodeSets.{has};
+ghost use Rattle.routes.specs.Dijkstra.{AllBelow, IsNearest, LeastOver, Relaxes, relaxed};
 ghost use Rattle.routes.specs.Distances.{Filled};
-ghost use Rattle.routes.specs.NodeLists.{BelowFirst};
 ghost use Rattle.routes.specs.Settling.{Standing};
 ghost use Rattle.routes.specs.Surviving.{surviving_network};
 
 use super::Surviving;
 use crate::matrix::distances::NEVER;
-use crate::node_list::NodeList;
 use links::node::NodeId;
+use links::node_set::NodeSet;
 
 impl<'a> Surviving<'a> {
     // The distance of each node from d, or NEVER, into dist.
@@ -18,45 +18,67 @@ impl<'a> Surviving<'a> {
     {
         dist.fill(NEVER);
         dist[d.0 as usize] = 0;
-        self.settle_rest(NodeList::below(self.nodes()), dist);
+        self.settle_rest(NodeSet::below(self.nodes()), dist);
     }
 
     // Dijkstra's algorithm: the nearest unsettled node is settled, and its links to the others are relaxed.
-    pub(crate) fn settle_rest(&self, unsettled: NodeList, dist: &mut [u32])
-        requires few { unsettled.count ≤ 64 }
-        requires within { BelowFirst (surviving_network self.now).n unsettled.nodes unsettled.count }
+    pub(crate) fn settle_rest(&self, unsettled: NodeSet, dist: &mut [u32])
+        requires within { AllBelow (surviving_network self.now).n unsettled }
         requires size { length dist.old ≡ (surviving_network self.now).n }
         ensures { (d : ℕ) → Standing (surviving_network self.now) d unsettled dist.old → Filled (surviving_network self.now) d dist.new }
     {
         let mut unsettled = unsettled;
-        while let Some(u) = unsettled.take_nearest(dist) {
-            self.relax(u, dist[u.0 as usize], unsettled.as_slice(), dist);
+        while let Some(u) = nearest(unsettled, dist) {
+            unsettled.remove(u);
+            self.relax(u, self.neighbours(u).and(unsettled), dist);
         }
     }
 
-    // The links of a node at the distance here to others: none of those is farther than that and the link's cost.
-    fn relax(&self, u: NodeId, here: u32, others: &[NodeId], dist: &mut [u32])
+    // The links of a node to others: none of those is farther than it and the link's cost.
+    fn relax(&self, u: NodeId, others: NodeSet, dist: &mut [u32])
         requires within { (u.0 < (surviving_network self.now).n) × (length dist.old ≡ (surviving_network self.now).n) }
-        requires others { BelowFirst (surviving_network self.now).n others.now (length others.now) }
-        ensures { Relaxes (surviving_network self.now) u.0 here others.now (length others.now) dist.old dist.new }
+        requires others { (e : ℕ) → has others e ≡ true → 0 < (surviving_network self.now).cost u.0 e }
+        ensures { Relaxes (surviving_network self.now) u.0 (slice_index dist.old u.0) others dist.old dist.new }
     {
-        for e in others {
+        let here = dist[u.0 as usize];
+        let mut rest = others;
+        while let Some(e) = rest.take_first() {
             let there = dist[e.0 as usize];
-            dist[e.0 as usize] = by_link(self.cost(u, *e), here, there);
+            dist[e.0 as usize] = by_link(self.cost(u, e), here, there);
         }
     }
 
-    // The least distance of a node by one of its links, where dist has those of the other ends; NEVER where there is none.
-    pub(crate) fn least_over(&self, a: NodeId, dist: &[u32]) -> u32
-        requires { (a.0 < (surviving_network self.now).n) × (length dist.now ≡ (surviving_network self.now).n) }
-        ensures { LeastOver (surviving_network self.now) a.0 dist.now result }
+    // The least distance of a node by its links to others, where dist has those of the others; NEVER where there is none.
+    pub(crate) fn least_over(&self, a: NodeId, others: NodeSet, dist: &[u32]) -> u32
+        requires size { length dist.now ≡ (surviving_network self.now).n }
+        requires others { (e : ℕ) → has others e ≡ true → 0 < (surviving_network self.now).cost a.0 e }
+        ensures { LeastOver (surviving_network self.now) a.0 others dist.now result }
     {
         let mut least = NEVER;
-        for e in self.neighbours(a) {
-            least = by_link(self.cost(a, *e), dist[e.0 as usize], least);
+        let mut rest = others;
+        while let Some(e) = rest.take_first() {
+            least = by_link(self.cost(a, e), dist[e.0 as usize], least);
         }
         least
     }
+}
+
+// Which of the nodes has the least distance, if any has one.
+fn nearest(nodes: NodeSet, dist: &[u32]) -> Option<NodeId>
+    requires { AllBelow (length dist.now) nodes }
+    ensures { IsNearest nodes dist.now result }
+{
+    let mut best = None;
+    let mut least = NEVER;
+    let mut rest = nodes;
+    while let Some(u) = rest.take_first() {
+        let there = dist[u.0 as usize];
+        if there < least {
+            best = Some(u);
+            least = there;
+        }
+    }
+    best
 }
 
 // The lesser of the distance there and that by a link, if there is one.

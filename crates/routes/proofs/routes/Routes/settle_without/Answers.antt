@@ -1,55 +1,39 @@
-use Rattle.std.proofs.Common.{ℕ, ◌+◌, ◌*◌, get_or, set, sym, subst, ◌∙◌, ap, arith}
+use Rattle.std.proofs.Common.{◌≡◌, ℕ, ◌+◌, ◌*◌, true, ◌&&◌, not, ltb, get_or, sym, subst, ◌∙◌, ap, arith}
 use Rattle.links.specs.Link.{ends}
+use Rattle.links.specs.NodeSets.{has}
 use Rattle.theory.specs.Network.{Network, without}
 use Rattle.routes.specs.Dijkstra.{LeastOver}
 use Rattle.routes.specs.Distances.{Filled}
-use Rattle.routes.specs.NodeLists.{number_at}
 use Rattle.routes.specs.Routes.{routes_network}
 use Rattle.routes.specs.Settling.{Standing}
 use Rattle.routes.proofs.Costs.{matrix_lawful, matrix_limited}
-use Rattle.routes.proofs.Linked.{as_taken}
-use Rattle.routes.proofs.Starting.{Cleared, Begun, cleared_none, cleared_more, begun_none, begun_more, begun_all}
+use Rattle.routes.proofs.Sets.{size_falls}
+use Rattle.routes.proofs.Starting.{begun_none, begun_more, begun_all, touched_within}
 use Rattle.routes.proofs.routes.Routes.settle_without.Goals as goal
 
 pub loop-a-init : goal.loop-a-init
-loop-a-init c = cleared_none c.copy_from_slice.new.self c.args.touched
+loop-a-init c =
+    let r = c.args.self.now in
+    begun_none (routes_network r) (matrix_lawful r.costs) (matrix_limited r.costs) (ends c.args.link) c.args.d.0 c.requires.within c.args.touched c.requires.touched (λ a. get_or r.distances (c.args.d.0 * 64 + a) 0) (λ a p. r.near c.args.d.0 a (c.requires.within, p))
+    c.copy_from_slice.new.self (omega (arith, c.requires.size)) (λ v p. ap (λ l. get_or l v 0) c.copy_from_slice.ensures.after ∙ c.distances_from.ensures.each v p)
+
+pub loop-a-smaller : goal.loop-a-smaller
+loop-a-smaller c =
+    let t = c.in-Some.ensures in
+    size_falls c.loop-a.rest c.take_first.new.self c.in-Some.a.0 t.1 t.0.within t.0.in_set
 
 pub loop-a-preserved : goal.loop-a-preserved
 loop-a-preserved c =
-    let t = c.args.touched in
-    let i = c.loop-a.a-index in
-    let w = as_taken t c.as_slice-a-items.result.now c.as_slice-a-items.ensures c.requires.touched.nodes.size c.requires.touched.nodes.few in
-    let e = w.1 i c.loop-a-test.true in
-    subst (λ x. Cleared c.copy_from_slice.new.self (set c.loop-a.dist x 4294967295) t (i + 1)) (sym e)
-    (cleared_more c.copy_from_slice.new.self c.loop-a.dist t i (omega (arith, c.requires.touched.nodes.within i (omega (arith, w.0)), c.requires.size)) c.loop-a.invariant)
-
-pub loop-a-2-init : goal.loop-a-2-init
-loop-a-2-init c =
     let r = c.args.self.now in
-    let w = as_taken c.args.touched c.as_slice-a-items.result.now c.as_slice-a-items.ensures c.requires.touched.nodes.size c.requires.touched.nodes.few in
-    begun_none (routes_network r) (matrix_lawful r.costs) (matrix_limited r.costs) (ends c.args.link) c.args.d.0 c.requires.within c.args.touched c.requires.touched (λ a. get_or r.distances (c.args.d.0 * 64 + a) 0) (λ a p. r.near c.args.d.0 a (c.requires.within, p))
-    c.copy_from_slice.new.self c.loop-a.dist c.loop-a.a-index (omega (arith, w.0)) (omega (arith, c.requires.size)) (λ v p. ap (λ l. get_or l v 0) c.copy_from_slice.ensures.after ∙ c.distances_from.ensures.each v p) c.loop-a.invariant
-
-pub loop-a-2-preserved : goal.loop-a-2-preserved
-loop-a-2-preserved c =
-    let r = c.args.self.now in
-    let z = routes_network r in
-    let t = c.args.touched in
-    let i = c.loop-a-2.a-index in
-    let f : ℕ → ℕ = λ a. get_or r.distances (c.args.d.0 * 64 + a) 0 in
-    let w = as_taken t c.as_slice-a-items-2.result.now c.as_slice-a-items-2.ensures c.requires.touched.nodes.size c.requires.touched.nodes.few in
-    let e = w.1 i c.loop-a-2-test.true in
-    let o = subst (λ (y : Network). LeastOver y (number_at c.as_slice-a-items-2.result.now i) c.loop-a-2.dist c.least_over.result) c.without-left.ensures c.least_over.ensures in
-    subst (λ x. Begun z (ends c.args.link) c.args.d.0 t f (set c.loop-a-2.dist x c.least_over.result) (i + 1)) (sym e)
-    (begun_more z (matrix_lawful r.costs) (matrix_limited r.costs) (ends c.args.link) c.args.d.0 c.requires.within t c.requires.touched f (λ a p. r.near c.args.d.0 a (c.requires.within, p))
-    c.loop-a-2.dist i c.least_over.result (omega (arith, w.0)) c.loop-a-2.invariant (subst (λ x. LeastOver (without (ends c.args.link) z) x c.loop-a-2.dist c.least_over.result) e o))
+    let t = c.in-Some.ensures in
+    let o = subst (λ (y : Network). LeastOver y c.in-Some.a.0 c.minus.result c.loop-a.dist c.least_over.result) c.without-left.ensures c.least_over.ensures in
+    let n = subst (λ (y : Network). (e : ℕ) → has c.neighbours.result e ≡ ltb 0 (y.cost c.in-Some.a.0 e)) c.without-left.ensures c.neighbours.ensures in
+    begun_more (routes_network r) (matrix_lawful r.costs) (matrix_limited r.costs) (ends c.args.link) c.args.d.0 c.requires.within c.args.touched c.requires.touched (λ a. get_or r.distances (c.args.d.0 * 64 + a) 0) (λ a p. r.near c.args.d.0 a (c.requires.within, p))
+    c.loop-a.rest c.take_first.new.self c.minus.result c.loop-a.dist c.in-Some.a.0 c.least_over.result t.0.in_set t.1 (λ e. c.minus.ensures e ∙ ap (λ b. b && not (has c.args.touched e)) (n e)) c.loop-a.invariant o
 
 pub returns : goal.returns
 returns c =
     let r = c.args.self.now in
-    let z = routes_network r in
-    let t = c.args.touched in
-    let w = as_taken t c.as_slice-a-items-2.result.now c.as_slice-a-items-2.ensures c.requires.touched.nodes.size c.requires.touched.nodes.few in
-    let s = begun_all z (matrix_lawful r.costs) (matrix_limited r.costs) (ends c.args.link) c.args.d.0 c.requires.within t c.requires.touched (λ a. get_or r.distances (c.args.d.0 * 64 + a) 0) (λ a p. r.near c.args.d.0 a (c.requires.within, p))
-    c.loop-a-2.dist c.loop-a-2.a-index (omega (arith, w.0)) c.loop-a-2.invariant in
-    subst (λ (y : Network). Standing y c.args.d.0 t c.loop-a-2.dist → Filled y c.args.d.0 c.settle_rest.new.dist) c.without-left.ensures (c.settle_rest.ensures c.args.d.0) s
+    let s = begun_all (routes_network r) (matrix_lawful r.costs) (matrix_limited r.costs) (ends c.args.link) c.args.d.0 c.requires.within c.args.touched c.requires.touched (λ a. get_or r.distances (c.args.d.0 * 64 + a) 0) (λ a p. r.near c.args.d.0 a (c.requires.within, p))
+        c.loop-a.rest c.loop-a.dist c.in_default.ensures.1 c.loop-a.invariant in
+    subst (λ (y : Network). Standing y c.args.d.0 c.args.touched c.loop-a.dist → Filled y c.args.d.0 c.settle_rest.new.dist) c.without-left.ensures (c.settle_rest.ensures c.args.d.0) s

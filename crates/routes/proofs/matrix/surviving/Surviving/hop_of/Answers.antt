@@ -1,19 +1,51 @@
-use Rattle.std.proofs.Common.{ap, ◌∙◌, arith}
-use Rattle.routes.specs.NextHops.{hop_of}
+use Rattle.std.proofs.Common.{◌≡◌, ap, sym, subst, get_or, inl, inr, ◌∙◌, arith}
+use Rattle.std.proofs.lemmas.Bool.{both_ways, cases_eq, cases_Bool}
+use Rattle.links.specs.NodeSets.{has}
+use Rattle.routes.specs.NextHops.{hop_of, Near}
 use Rattle.routes.specs.Surviving.{surviving_network}
 use Rattle.routes.proofs.LeftNetwork.{surviving_lawful, surviving_limited}
 use Rattle.routes.proofs.Hops.{hop_none, hop_some}
+use Rattle.routes.proofs.Sets.{size_falls, left_in, same_other}
+use Rattle.routes.proofs.matrix.surviving.Surviving.hop_of.Goals.{else-there-here-via-then-there-here+else-here-there, else-there-here-via-else-there-here}
 use Rattle.routes.proofs.matrix.surviving.Surviving.hop_of.Goals as goal
 
-pub returns-after-nearest : goal.returns-after-nearest
-returns-after-nearest c d f =
-    let s = c.args.self.now in
+pub nearest-smaller : goal.nearest-smaller
+nearest-smaller c =
+    let t = c.in-Some.ensures in
+    size_falls c.nearest.rest c.take_first.new.self c.in-Some.e.0 t.1 t.0.within t.0.in_set
+
+pub nearest-preserved : goal.nearest-preserved
+nearest-preserved c =
     let i = c.nearest.invariant in
-    ap hop_of i.0 ∙ hop_none (surviving_network s) (surviving_lawful s) (surviving_limited s) d c.args.dist.now f c.args.a.0 c.requires.0 c.neighbours-e-items.result.now c.neighbours-e-items.ensures (λ j p. i.1 j (omega arith))
+    let t = c.in-Some.ensures in
+    let e = c.in-Some.e.0 in
+    (
+      i.0,
+      (λ y h. i.1 y (left_in c.nearest.rest c.take_first.new.self e t.1 y h)),
+      λ y link n near. elim (cases_eq y e) [
+        | inl x ↦
+            let this = subst (λ j. Near ((surviving_network c.args.self.now).cost c.args.a.0 j) c.args.dist.now (get_or c.args.dist.now c.args.a.0 0) j) x near in
+            elim c.else-there-here.branch [
+              | else-there-here-via-then-there-here+else-here-there w ↦ w.if-here-there.false (this.cost ∙ sym (w.from.ensures ∙ w.cost.ensures))
+              | else-there-here-via-else-there-here w ↦ omega (arith, this.less, w.if-there-here.false)
+            ]
+        | inr x ↦ i.2 y link (sym (same_other c.nearest.rest c.take_first.new.self e t.1 y x) ∙ n) near
+      ],
+    )
 
 pub returns-then-here-there : goal.returns-then-here-there
 returns-then-here-there c d f =
     let s = c.args.self.now in
-    hop_some (surviving_network s) (surviving_lawful s) (surviving_limited s) d c.args.dist.now f c.args.a.0 c.requires.0 c.neighbours-e-items.result.now c.neighbours-e-items.ensures c.nearest.e-index c.nearest-test.true
+    let i = c.nearest.invariant in
+    let t = c.in-Some.ensures in
+    let nb = c.neighbours-rest.ensures in
+    hop_some (surviving_network s) (surviving_lawful s) (surviving_limited s) d c.args.dist.now f c.args.a.0 c.requires.0 c.neighbours-rest.result nb c.in-Some.e.0 (nb c.in-Some.e.0 ∙ i.1 c.in-Some.e.0 t.0.in_set)
     (record { less = c.if-there-here.true; cost = c.if-here-there.true ∙ (c.from.ensures ∙ c.cost.ensures) })
-    c.nearest.invariant.1
+    (λ y l h. i.2 y (sym (nb y) ∙ h) (t.0.none_lower y l))
+
+pub returns-in_default : goal.returns-in_default
+returns-in_default c d f =
+    let s = c.args.self.now in
+    let i = c.nearest.invariant in
+    let nb = c.neighbours-rest.ensures in
+    ap hop_of i.0 ∙ hop_none (surviving_network s) (surviving_lawful s) (surviving_limited s) d c.args.dist.now f c.args.a.0 c.requires.0 c.neighbours-rest.result nb (λ y h. i.2 y (sym (nb y) ∙ h) (c.in_default.ensures.1 y))

@@ -1,11 +1,16 @@
-use Rattle.std.proofs.Common.{◌≡◌, ℕ, ◌<◌, None}
+use Rattle.std.proofs.Common.{◌≡◌, ℕ, ◌<◌, None, true, false, ltb}
+use Rattle.links.specs.NodeSets.{has}
 use Rattle.routes.specs.NextHops.{Near}
-use Rattle.routes.specs.NodeLists.{number_at}
 use Rattle.routes.specs.Surviving.{surviving_network}
+use Rattle.routes.proofs.Sets.{size_of}
 use Rattle.routes.proofs.matrix.surviving.Surviving.hop_of.Given as goal
 
--- none of the neighbours so far passes
+-- the rest are neighbours, and none of the others passes
 abbrev pub invariant-nearest : goal.invariant-nearest
 invariant-nearest l =
     let z = surviving_network l.self in
-    (l.found ≡ None) × ((i : ℕ) → i < l.e-index → Near (z.cost l.a.0 (number_at l.e-items i)) l.dist l.here (number_at l.e-items i) → ⊥)
+    (l.found ≡ None) × ((y : ℕ) → has l.rest y ≡ true → ltb 0 (z.cost l.a.0 y) ≡ true) ×
+    ((y : ℕ) → ltb 0 (z.cost l.a.0 y) ≡ true → has l.rest y ≡ false → Near (z.cost l.a.0 y) l.dist l.here y → ⊥)
+
+abbrev pub decreases-nearest : goal.decreases-nearest
+decreases-nearest l = size_of l.rest

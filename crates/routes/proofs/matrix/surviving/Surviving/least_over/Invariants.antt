@@ -1,6 +1,10 @@
 use Rattle.routes.specs.Surviving.{surviving_network}
-use Rattle.routes.proofs.Relaxing.{LeastFirst}
+use Rattle.routes.proofs.Relaxing.{LeastBut}
+use Rattle.routes.proofs.Sets.{size_of}
 use Rattle.routes.proofs.matrix.surviving.Surviving.least_over.Given as goal
 
 abbrev pub invariant-loop-e : goal.invariant-loop-e
-invariant-loop-e l = LeastFirst (surviving_network l.self) l.a.0 l.dist l.e-items l.e-index l.least
+invariant-loop-e l = LeastBut (surviving_network l.self) l.a.0 l.fn.others l.rest l.dist l.least
+
+abbrev pub decreases-loop-e : goal.decreases-loop-e
+decreases-loop-e l = size_of l.rest

@@ -1,19 +1,23 @@
-use Rattle.std.proofs.Common.{◌≡◌, arith, subst, ap, get_or, ◌∙◌}
-use Rattle.routes.specs.Dijkstra.{relaxed, Relaxes}
-use Rattle.routes.specs.NodeLists.{number_at}
+use Rattle.std.proofs.Common.{◌≡◌, ap, get_or, ◌∙◌, arith}
+use Rattle.routes.specs.Dijkstra.{relaxed}
 use Rattle.routes.specs.Surviving.{surviving_network}
-use Rattle.routes.proofs.Relaxing.{relaxed_start, relaxed_more}
+use Rattle.routes.proofs.LeftNetwork.{surviving_lawful}
+use Rattle.routes.proofs.Relaxing.{relaxed_more}
+use Rattle.routes.proofs.Sets.{size_falls}
 use Rattle.routes.proofs.matrix.surviving.Surviving.relax.Goals as goal
 
-pub loop-e-init : goal.loop-e-init
-loop-e-init c = relaxed_start (surviving_network c.args.self.now) c.args.u.0 c.args.here c.args.dist.now c.args.others.now
+pub loop-e-smaller : goal.loop-e-smaller
+loop-e-smaller c =
+    let t = c.in-Some.ensures in
+    size_falls c.loop-e.rest c.take_first.new.self c.in-Some.e.0 t.1 t.0.within t.0.in_set
 
 pub loop-e-preserved : goal.loop-e-preserved
 loop-e-preserved c =
-    let ns = c.args.others.now in
-    let i = c.loop-e.e-index in
-    relaxed_more (surviving_network c.args.self.now) c.args.u.0 c.args.here c.args.dist.now c.loop-e.dist ns i c.by_link.result c.requires.within.1 (c.requires.others i (omega arith)) c.loop-e.invariant
-    (c.by_link.ensures ∙ ap (λ k. relaxed k c.args.here (get_or c.loop-e.dist (number_at ns i) 0)) c.cost.ensures)
-
-pub returns : goal.returns
-returns c = subst (λ k. Relaxes (surviving_network c.args.self.now) c.args.u.0 c.args.here c.args.others.now k c.args.dist.now c.loop-e.dist) (omega arith) c.loop-e.invariant
+    let s = c.args.self.now in
+    let z = surviving_network s in
+    let t = c.in-Some.ensures in
+    let e = c.in-Some.e.0 in
+    let here = get_or c.args.dist.now c.args.u.0 0 in
+    let link = c.requires.others e (c.loop-e.invariant.some e t.0.in_set) in
+    relaxed_more z c.args.u.0 here c.args.others c.loop-e.rest c.take_first.new.self c.args.dist.now c.loop-e.dist e c.by_link.result c.requires.within.1 ((surviving_lawful s).within c.args.u.0 e link).1 t.0.in_set t.1 c.loop-e.invariant
+    (c.by_link.ensures ∙ ap (λ k. relaxed k here (get_or c.loop-e.dist e 0)) c.cost.ensures)

@@ -1,4 +1,4 @@
-use Rattle.std.proofs.Common.{◌≡◌, ◌∙◌, length, refl, arith, rules}
+use Rattle.std.proofs.Common.{◌≡◌, ◌∙◌, ap, refl, ltb, ◌&&◌, arith}
 use Rattle.routes.specs.Surviving.{surviving_network}
 use Rattle.routes.proofs.LeftNetwork.{surviving_lawful, surviving_limited}
 use Rattle.routes.proofs.Settled.{stands_none}
@@ -7,6 +7,5 @@ use Rattle.routes.proofs.matrix.surviving.Surviving.settle.Goals as goal
 pub returns : goal.returns
 returns c =
     let s = c.args.self.now in
-    let n : length c.below.result.nodes ≡ 64 = search rules in
-    c.settle_rest.ensures c.args.d.0 (stands_none (surviving_network s) (surviving_lawful s) (surviving_limited s) c.args.d.0 c.below.result c.fill.new.self n c.below.ensures.nodes (c.below.ensures.count ∙ c.nodes.ensures) c.requires.0 (omega arith)
+    c.settle_rest.ensures c.args.d.0 (stands_none (surviving_network s) (surviving_lawful s) (surviving_limited s) c.args.d.0 c.below.result c.fill.new.self (λ v. c.below.ensures v ∙ ap (λ n. ltb v n && ltb v 64) c.nodes.ensures) c.requires.0 (omega arith)
     (λ k h. c.fill.ensures.clones k 0 (omega arith) refl))

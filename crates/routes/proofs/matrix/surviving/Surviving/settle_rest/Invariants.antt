@@ -1,14 +1,14 @@
-use Rattle.std.proofs.Common.{◌≡◌, ℕ, ◌≤◌, length}
-use Rattle.routes.specs.NodeLists.{BelowFirst}
+use Rattle.std.proofs.Common.{◌≡◌, ℕ, length}
+use Rattle.routes.specs.Dijkstra.{AllBelow}
 use Rattle.routes.specs.Settling.{Standing}
 use Rattle.routes.specs.Surviving.{surviving_network}
+use Rattle.routes.proofs.Sets.{size_of}
 use Rattle.routes.proofs.matrix.surviving.Surviving.settle_rest.Given as goal
 
 abbrev pub invariant-loop-u : goal.invariant-loop-u
 invariant-loop-u l =
     let z = surviving_network l.self in
-    (l.unsettled.count ≤ 64) × BelowFirst z.n l.unsettled.nodes l.unsettled.count × (length l.dist ≡ z.n) ×
-    ((d : ℕ) → Standing z d l.initial.unsettled l.initial.dist → Standing z d l.unsettled l.dist)
+    AllBelow z.n l.unsettled × (length l.dist ≡ z.n) × ((d : ℕ) → Standing z d l.initial.unsettled l.initial.dist → Standing z d l.unsettled l.dist)
 
 abbrev pub decreases-loop-u : goal.decreases-loop-u
-decreases-loop-u l = l.unsettled.count
+decreases-loop-u l = size_of l.unsettled
