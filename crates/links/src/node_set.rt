@@ -81,6 +81,13 @@ impl NodeSet {
         Some(u)
     }
 
+    // Its nodes and those of the other.
+    pub fn or(self, other: NodeSet) -> NodeSet
+        ensures { (v : ℕ) → has result v ≡ (has self v || has other v) }
+    {
+        NodeSet(self.0 | other.0)
+    }
+
     // Those of its nodes that are in the other, too.
     pub fn and(self, other: NodeSet) -> NodeSet
         ensures { (v : ℕ) → has result v ≡ (has self v && has other v) }

@@ -1,5 +1,5 @@
 -- What distances in memory say of the next hops. Assumes nothing.
-use Rattle.std.proofs.Common.{◌≡◌, ℕ, ◌+◌, ◌<◌, ◌≤◌, true, eqb, ltb, ◌⊎◌, List, length, get_or, Some, None, Option, sym, refl, ap, ◌∙◌, subst, inl, inr, arith}
+use Rattle.std.proofs.Common.{◌≡◌, ℕ, ◌+◌, ◌<◌, ◌≤◌, true, eqb, ltb, ◌⊎◌, List, get_or, Some, None, Option, sym, refl, ap, ◌∙◌, inl, inr, arith}
 use Rattle.std.proofs.lemmas.Bool.{ltb-true, lt-ltb, ne_eqb, cases_lt, cases_eq, cases_Bool, cond-true, cond-false}
 use Rattle.routes.specs.NextHops.{Near}
 use Rattle.links.specs.NodeSets.{has}
@@ -12,7 +12,6 @@ use Rattle.theory.proofs.DistanceLaws.{distance_self}
 use Rattle.theory.proofs.NextHops.{next_hop_is, is_next_hop}
 use Rattle.theory.proofs.HopPaths.{bounded}
 use Rattle.theory.proofs.Paths.{some_inj, none_some}
-use Rattle.links.specs.declared.node.NodeId.{NodeId}
 
 decoded_some : (x c : ℕ) → decoded x ≡ Some c → x ≡ c
 decoded_some x c p = elim (cases_Bool (eqb x 4294967295)) [

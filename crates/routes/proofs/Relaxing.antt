@@ -1,9 +1,9 @@
 -- The links of a node to the nodes of a set, taken one after another. Assumes nothing.
 use Rattle.std.proofs.Common.{◌≡◌, ℕ, ◌+◌, ◌<◌, ◌≤◌, Bool, true, false, not, cond, ◌&&◌, ◌⊎◌, List, length, get_or, set, sym, refl, ap, ◌∙◌, subst, inl, inr, arith, length-set}
-use Rattle.std.proofs.lemmas.Bool.{both_ways, cases_eq, cases_Bool, and_from, and_left, and_right, cond-true, cond-false}
+use Rattle.std.proofs.lemmas.Bool.{both_ways, cases_eq, and_from, and_right, cond-true, cond-false}
 use Rattle.std.proofs.lemmas.List.{get_or-set_same, get_or-set_other}
 use Rattle.std.proofs.Math.Bool.{and-true}
-use Rattle.links.specs.NodeSets.{has, Lowest}
+use Rattle.links.specs.NodeSets.{has}
 use Rattle.links.specs.declared.node_set.NodeSet.{NodeSet}
 use Rattle.theory.specs.Network.{Network}
 use Rattle.routes.specs.Dijkstra.{relaxed, Relaxes, LeastOver}

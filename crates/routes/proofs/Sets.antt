@@ -1,8 +1,8 @@
 -- A set of nodes, taken one after another. Assumes nothing.
-use Rattle.std.proofs.Common.{◌≡◌, ℕ, ◌<◌, ◌≤◌, Bool, true, false, not, ◌&&◌, eqb, sym, refl, ap, ◌∙◌, arith}
-use Rattle.std.proofs.lemmas.Bool.{both_ways, eq-eqb, ne_eqb, cases_eq, cases_Bool, and_parts, and_left, and_right}
+use Rattle.std.proofs.Common.{◌≡◌, ℕ, ◌<◌, true, false, not, ◌&&◌, eqb, sym, refl, ap, ◌∙◌}
+use Rattle.std.proofs.lemmas.Bool.{eq-eqb, ne_eqb, and_parts, and_right}
 use Rattle.std.proofs.Math.Bool.{and-true}
-use Rattle.links.specs.NodeSets.{has, Lowest}
+use Rattle.links.specs.NodeSets.{has}
 use Rattle.links.specs.declared.node_set.NodeSet.{NodeSet}
 use Rattle.theory.proofs.Distances.{count, count_lt}
 

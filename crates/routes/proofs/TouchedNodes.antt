@@ -1,21 +1,18 @@
 -- Which nodes a failed link touches, one after another. Assumes nothing.
-use Rattle.std.proofs.Common.{◌≡◌, ℕ, ◌<◌, ◌≤◌, Bool, true, false, not, ◌&&◌, ◌||◌, eqb, ltb, ◌⊎◌, Some, sym, refl, ap, ◌∙◌, subst, inl, inr, arith}
-use Rattle.std.proofs.lemmas.Bool.{both_ways, cases_eq, cases_lt, cases_Bool, eq-eqb, ne_eqb, lt-ltb, le-ltb, and_from, and_left, and_right, or_left, or_right}
-use Rattle.theory.specs.Network.{Network, Lawful, Limited, LinkId}
-use Rattle.theory.specs.NextHop.{uses, next_hop}
+use Rattle.std.proofs.Common.{◌≡◌, ℕ, ◌+◌, ◌<◌, Bool, true, false, not, ◌&&◌, ◌||◌, eqb, ltb, ◌⊎◌, length, set, Some, None, Option, sym, refl, ap, ◌∙◌, inl, inr, arith, length-set}
+use Rattle.std.proofs.lemmas.Bool.{both_ways, cases_eq, cases_lt, cases_Bool, eqb-true, eq-eqb, ne_eqb, ltb-true, lt-ltb, le-ltb, not-true, not_from_false, and_parts, and_from, and_left, and_right, or_cases, or_left, or_right}
+use Rattle.theory.specs.Network.{Network, Lawful, Limited, LinkId, joins}
+use Rattle.theory.specs.NextHop.{at_hop, uses, next_hop}
 use Rattle.theory.proofs.NextHops.{next_hop_is}
 use Rattle.links.specs.NodeSets.{has}
 use Rattle.links.specs.declared.node_set.NodeSet.{NodeSet}
-use Rattle.routes.specs.Touched.{Touched, Known, Noted}
-use Rattle.routes.specs.declared.routes.touched.Memo.{Memo}
-
--- nothing is known at first
-pub known_none : (z : Network) (r : LinkId) (d : ℕ) (m : Memo) → ((u : ℕ) → has m.known u ≡ false) → ((u : ℕ) → has m.touched u ≡ false) → Known z r d m
-known_none z r d m k t = record {
-  is = λ a h. absurd (both_ways (has m.known a) (k a) h);
-  only = λ a h. absurd (both_ways (has m.touched a) (t a) h);
-  below = λ a h. absurd (both_ways (has m.known a) (k a) h);
-}
+use Rattle.routes.specs.Neighbours.{set_at}
+use Rattle.routes.specs.Touched.{Touched, Sorted, sends_over, sends_to}
+use Rattle.routes.specs.declared.routes.touched.Senders.{Senders}
+use Rattle.routes.proofs.Sets.{Less, left_in, gone, same_other}
+use Rattle.theory.proofs.Distances.{count, count_lt}
+use Rattle.theory.proofs.HopPaths.{by_next_hops, uses_stop, uses_to}
+use Rattle.std.proofs.lemmas.List.{get_or-set_same, get_or-set_other}
 
 pub hop_within : (z : Network) → Lawful z → (d a e : ℕ) → Some e ≡ next_hop z d a → e < z.n
 hop_within z g d a e h = (g.within a e (next_hop_is z d a e (sym h)).near.link).1
@@ -34,50 +31,186 @@ module _ (u : ℕ) (old new : NodeSet) (m : More u old new) where
   pub more_still : (v : ℕ) → has old v ≡ true → has new v ≡ true
   more_still v h = m v ∙ or_right (eqb v u && ltb v 64) (has old v) h
 
--- a is noted
-pub noted : (z : Network) → Limited z → (r : LinkId) (d a : ℕ) (old m new : Memo) (b : Bool) → a < z.n → Known z r d m → b ≡ uses z r d a → ((v : ℕ) → has old.known v ≡ true → has m.known v ≡ true) →
-    More a m.known new.known → ((v : ℕ) → has new.touched v ≡ ((b && (eqb v a && ltb v 64)) || has m.touched v)) → Noted z r d a old new
-noted z s r d a old m new b l h q still mk mt = record {
-  still = record {
-    is = λ v y. elim (cases_eq v a) [
-      | inl e ↦ rw e (here ∙ q)
-      | inr e ↦ there v e ∙ h.is v (sym (more_same a m.known new.known mk v e) ∙ y)
-    ];
-    only = λ v y. elim (cases_eq v a) [
-      | inl e ↦ rw e (more_in a m.known new.known mk (omega (arith, s.few)))
-      | inr e ↦ more_still a m.known new.known mk v (h.only v (sym (there v e) ∙ y))
-    ];
-    below = λ v y. elim (cases_eq v a) [ inl e ↦ omega arith | inr e ↦ h.below v (sym (more_same a m.known new.known mk v e) ∙ y) ];
-  };
-  this = more_in a m.known new.known mk (omega (arith, s.few));
-  kept = λ v y. more_still a m.known new.known mk v (still v y);
-}
-  where
-    this_one : (eqb a a && ltb a 64) ≡ true
-    this_one = and_from (eqb a a) (ltb a 64) (eq-eqb a a refl) (lt-ltb a 64 (omega (arith, s.few)))
-
-    here : has new.touched a ≡ b
-    here = mt a ∙ (ap (λ x. (b && x) || has m.touched a) this_one ∙ elim (cases_Bool b) [
-      | inl x ↦ ap (λ c. (c && true) || has m.touched a) x ∙ sym x
-      | inr x ↦ ap (λ c. (c && true) || has m.touched a) x ∙ (elim (cases_Bool (has m.touched a)) [
-        | inr y ↦ y
-        | inl y ↦ h.is a (h.only a y) ∙ (sym q ∙ x)
-      ] ∙ sym x)
-    ])
-
-    there : (v : ℕ) → (v ≡ a → ⊥) → has new.touched v ≡ has m.touched v
-    there v e = mt v ∙ ap (λ x. x || has m.touched v) (and_right b (eqb v a && ltb v 64) (ap (λ x. x && ltb v 64) (ne_eqb v a e)))
-
--- a was known already
-pub noted_before : (z : Network) (r : LinkId) (d a : ℕ) (m : Memo) → Known z r d m → has m.known a ≡ true → Noted z r d a m m
-noted_before z r d a m h y = record { still = h; this = y; kept = λ b k. k }
-
--- all are known
-pub touched_all : (z : Network) (r : LinkId) (d k : ℕ) (m : Memo) → k ≡ z.n → Known z r d m → ((a : ℕ) → a < k → has m.known a ≡ true) → Touched z r d m.touched
-touched_all z r d k m e h all a = elim (cases_lt a z.n) [
-  | inl l ↦ h.is a (all a (omega arith)) ∙ sym (ap (λ b. b && uses z r d a) (lt-ltb a z.n l))
-  | inr l ↦ elim (cases_Bool (has m.touched a)) [
-    | inl y ↦ absurd (omega (arith, h.below a (h.only a y)))
-    | inr y ↦ y ∙ sym (ap (λ b. b && uses z r d a) (le-ltb a z.n l))
-  ]
+below_one : (k a : ℕ) → (a ≡ k → ⊥) → ltb a (k + 1) ≡ ltb a k
+below_one k a h = elim (cases_lt a k) [
+  | inl l ↦ lt-ltb a (k + 1) (omega arith) ∙ sym (lt-ltb a k l)
+  | inr l ↦ le-ltb a (k + 1) (omega arith) ∙ sym (le-ltb a k l)
 ]
+
+-- a set of the first k nodes that pass p; k passes, or doesn't
+abbrev FirstOf : ℕ → (ℕ → Bool) → NodeSet → Type 0
+FirstOf k p s = (a : ℕ) → has s a ≡ (ltb a k && p a)
+
+first_with : (k : ℕ) (p : ℕ → Bool) (s t : NodeSet) → k < 64 → p k ≡ true → FirstOf k p s → More k s t → FirstOf (k + 1) p t
+first_with k p s t l y h m a = elim (cases_eq a k) [
+  | inl e ↦ rw e (more_in k s t m l ∙ sym (and_from (ltb k (k + 1)) (p k) (lt-ltb k (k + 1) (omega arith)) y))
+  | inr e ↦ more_same k s t m a e ∙ (h a ∙ ap (λ x. x && p a) (sym (below_one k a e)))
+]
+
+first_without : (k : ℕ) (p : ℕ → Bool) (s : NodeSet) → p k ≡ false → FirstOf k p s → FirstOf (k + 1) p s
+first_without k p s n h a = elim (cases_eq a k) [
+  | inl e ↦ rw e (h k ∙ (and_left (ltb k k) (p k) (le-ltb k k (omega arith)) ∙ sym (and_right (ltb k (k + 1)) (p k) n)))
+  | inr e ↦ h a ∙ ap (λ x. x && p a) (sym (below_one k a e))
+]
+
+-- at first nobody is sorted
+pub sorted_none : (z : Network) (r : LinkId) (d : ℕ) (s : Senders) → length s.to ≡ 64 → ((u : ℕ) → has s.over u ≡ false) → ((e u : ℕ) → e < z.n → has (set_at s.to e) u ≡ false) → Sorted z r d 0 s
+sorted_none z r d s size o t = record {
+  size = size;
+  over = λ a. o a ∙ sym (ap (λ x. x && sends_over z r d a) (le-ltb a 0 (omega arith)));
+  to = λ e a l. t e a l ∙ sym (ap (λ x. x && sends_to z r d a e) (le-ltb a 0 (omega arith)));
+}
+
+at_some : (f : ℕ → Bool) (o : Option ℕ) (e : ℕ) → Some e ≡ o → at_hop f o ≡ f e
+at_some f o e h = ap (at_hop f) (sym h)
+
+at_none : (f : ℕ → Bool) (o : Option ℕ) → None ≡ o → at_hop f o ≡ false
+at_none f o h = ap (at_hop f) (sym h)
+
+module _ (z : Network) (few : Limited z) (r : LinkId) (d k : ℕ) (s t : Senders) (l : k < z.n) (h : Sorted z r d k s) where
+  -- k sends over the link
+  pub sorted_over : (e : ℕ) → Some e ≡ next_hop z d k → joins r k e ≡ true → t.to ≡ s.to → More k s.over t.over → Sorted z r d (k + 1) t
+  sorted_over e n j same m = record {
+    size = ap length same ∙ h.size;
+    over = first_with k (sends_over z r d) s.over t.over (omega (arith, few.few)) (at_some (λ x. joins r k x) (next_hop z d k) e n ∙ j) h.over m;
+    to = λ v a p. ap (λ x. has (set_at x v) a) same ∙
+        first_without k (λ i. sends_to z r d i v) (set_at s.to v) (at_some (λ x. not (joins r k x) && eqb x v) (next_hop z d k) e n ∙ ap (λ x. not x && eqb e v) j) (λ i. h.to v i p) a;
+  }
+
+  -- it sends to e over another
+  pub sorted_to : (e : ℕ) (more : NodeSet) → e < z.n → Some e ≡ next_hop z d k → joins r k e ≡ false → t.over ≡ s.over → t.to ≡ set s.to e more → More k (set_at s.to e) more → Sorted z r d (k + 1) t
+  sorted_to e more w n j same q m = record {
+    size = ap length q ∙ (length-set s.to e more ∙ h.size);
+    over = λ a. ap (λ x. has x a) same ∙ first_without k (sends_over z r d) s.over (at_some (λ x. joins r k x) (next_hop z d k) e n ∙ j) h.over a;
+    to = λ v a p. ap (λ x. has (set_at x v) a) q ∙ elim (cases_eq v e) [
+      | inl i ↦
+          rw i (ap (λ x. has x a) (get_or-set_same s.to e more (record { 0 = 0 }) (omega (arith, h.size, few.few))) ∙
+          first_with k (λ y. sends_to z r d y e) (set_at s.to e) more (omega (arith, few.few)) (at_some (λ x. not (joins r k x) && eqb x e) (next_hop z d k) e n ∙ (ap (λ x. not x && eqb e e) j ∙ eq-eqb e e refl)) (λ y. h.to e y w) m a)
+      | inr i ↦
+          ap (λ x. has x a) (get_or-set_other s.to e v more (record { 0 = 0 }) i) ∙
+          first_without k (λ y. sends_to z r d y v) (set_at s.to v) (at_some (λ x. not (joins r k x) && eqb x v) (next_hop z d k) e n ∙ and_right (not (joins r k e)) (eqb e v) (ne_eqb e v (λ y. i (sym y)))) (λ y. h.to v y p) a
+    ];
+  }
+
+  -- it doesn't send
+  pub sorted_not : None ≡ next_hop z d k → t ≡ s → Sorted z r d (k + 1) t
+  sorted_not n same = rw same (record {
+    size = h.size;
+    over = first_without k (sends_over z r d) s.over (at_none (λ x. joins r k x) (next_hop z d k) n) h.over;
+    to = λ v a p. first_without k (λ y. sends_to z r d y v) (set_at s.to v) (at_none (λ x. not (joins r k x) && eqb x v) (next_hop z d k) n) (λ y. h.to v y p) a;
+  })
+
+-- the nodes that were found use the link; the rest are found, too, and who sends to one that is done is found
+pub record Found (z : Network) (r : LinkId) (d : ℕ) (done rest : NodeSet) : Type 0 where
+  pub done_use : (a : ℕ) → has done a ≡ true → (a < z.n) × (uses z r d a ≡ true)
+  pub rest_use : (a : ℕ) → has rest a ≡ true → (a < z.n) × (uses z r d a ≡ true)
+  pub apart : (a : ℕ) → has rest a ≡ true → has done a ≡ false
+  pub first : (a : ℕ) → a < z.n → sends_over z r d a ≡ true → (has done a ≡ true) ⊎ (has rest a ≡ true)
+  pub next : (a e : ℕ) → a < z.n → has done e ≡ true → sends_to z r d a e ≡ true → (has done a ≡ true) ⊎ (has rest a ≡ true)
+
+module _ (z : Network) (g : Lawful z) (few : Limited z) (r : LinkId) (d : ℕ) (s : Senders) (h : Sorted z r d z.n s) where
+  uses_over : (a : ℕ) → sends_over z r d a ≡ true → uses z r d a ≡ true
+  uses_over a t = go (next_hop z d a) refl t
+    where
+      go : (o : Option ℕ) → next_hop z d a ≡ o → at_hop (λ e. joins r a e) o ≡ true → uses z r d a ≡ true
+      go None e y = absurd (both_ways false refl y)
+      go (Some v) e y = uses_to z g r d a v e ∙ or_left (joins r a v) (uses z r d v) y
+
+  uses_next : (a e : ℕ) → sends_to z r d a e ≡ true → uses z r d e ≡ true → uses z r d a ≡ true
+  uses_next a e t u = go (next_hop z d a) refl t
+    where
+      go : (o : Option ℕ) → next_hop z d a ≡ o → at_hop (λ x. not (joins r a x) && eqb x e) o ≡ true → uses z r d a ≡ true
+      go None q y = absurd (both_ways false refl y)
+      go (Some v) q y = uses_to z g r d a v q ∙ or_right (joins r a v) (uses z r d v) (ap (uses z r d) (eqb-true v e (and_parts (not (joins r a v)) (eqb v e) y).1) ∙ u)
+
+  pub found_first : (none : NodeSet) → ((u : ℕ) → has none u ≡ false) → Found z r d none s.over
+  found_first none n = record {
+    done_use = λ a y. absurd (both_ways (has none a) (n a) y);
+    rest_use = λ a y. let p = and_parts (ltb a z.n) (sends_over z r d a) (sym (h.over a) ∙ y) in (ltb-true a z.n p.0, uses_over a p.1);
+    apart = λ a y. n a;
+    first = λ a l y. inr (h.over a ∙ and_from (ltb a z.n) (sends_over z r d a) (lt-ltb a z.n l) y);
+    next = λ a e l y. absurd (both_ways (has none e) (n e) y);
+  }
+
+  pub found_more : (done rest less more new fresh : NodeSet) (a : ℕ) → has rest a ≡ true → Less a rest less → More a done more → ((v : ℕ) → has fresh v ≡ (has (set_at s.to a) v && not (has more v))) → ((v : ℕ) → has new v ≡ (has less v || has fresh v)) → Found z r d done rest → Found z r d more new
+  found_more done rest less more new fresh a in_rest w m f q k =
+      let a_use = k.rest_use a in_rest in
+      let a_in : has more a ≡ true = more_in a done more m (omega (arith, a_use.0, few.few)) in
+      let in_less : (v : ℕ) → has less v ≡ true → has new v ≡ true = λ v y. q v ∙ or_left (has less v) (has fresh v) y in
+      let still : (v : ℕ) → has done v ≡ true ⊎ (has rest v ≡ true) → has more v ≡ true ⊎ (has new v ≡ true) = λ v y. elim y [
+        | inl i ↦ inl (more_still a done more m v i)
+        | inr i ↦ elim (cases_eq v a) [
+          | inl e ↦ inl (ap (has more) e ∙ a_in)
+          | inr e ↦ inr (in_less v (same_other rest less a w v e ∙ i))
+        ]
+      ] in
+      let parts : (v : ℕ) → has new v ≡ true → has less v ≡ true ⊎ (has fresh v ≡ true) = λ v y. or_cases (has less v) (has fresh v) (sym (q v) ∙ y) in
+      record {
+        done_use = λ v y. elim (cases_eq v a) [
+          | inl e ↦ rw e a_use
+          | inr e ↦ k.done_use v (sym (more_same a done more m v e) ∙ y)
+        ];
+        rest_use = λ v y. elim (parts v y) [
+          | inl i ↦ k.rest_use v (left_in rest less a w v i)
+          | inr i ↦
+              let b = (and_parts (has (set_at s.to a) v) (not (has more v)) (sym (f v) ∙ i)).0 in
+              let p = and_parts (ltb v z.n) (sends_to z r d v a) (sym (h.to a v a_use.0) ∙ b) in
+              (ltb-true v z.n p.0, uses_next v a p.1 a_use.1)
+        ];
+        apart = λ v y. elim (parts v y) [
+          | inl i ↦ elim (cases_eq v a) [
+            | inl e ↦ absurd (both_ways (has less a) (gone rest less a w) (ap (has less) (sym e) ∙ i))
+            | inr e ↦ more_same a done more m v e ∙ k.apart v (left_in rest less a w v i)
+          ]
+          | inr i ↦ not-true (has more v) (and_parts (has (set_at s.to a) v) (not (has more v)) (sym (f v) ∙ i)).1
+        ];
+        first = λ v l y. still v (k.first v l y);
+        next = λ v e l y t. elim (cases_eq e a) [
+          | inl i ↦ elim (cases_Bool (has more v)) [
+            | inl b ↦ inl b
+            | inr b ↦
+                let t' : sends_to z r d v a ≡ true = ap (sends_to z r d v) (sym i) ∙ t in
+                let o = h.to a v a_use.0 ∙ and_from (ltb v z.n) (sends_to z r d v a) (lt-ltb v z.n l) t' in
+                inr (q v ∙ or_right (has less v) (has fresh v) (f v ∙ and_from (has (set_at s.to a) v) (not (has more v)) o (ap not b)))
+          ]
+          | inr i ↦ still v (k.next v e l (sym (more_same a done more m e i) ∙ y) t)
+        ];
+      }
+
+  pub found_all : (done rest : NodeSet) → ((u : ℕ) → has rest u ≡ false) → Found z r d done rest → Touched z r d done
+  found_all done rest none k a = elim (cases_lt a z.n) [
+    | inl l ↦ elim (cases_Bool (has done a)) [
+      | inl y ↦ y ∙ sym (and_from (ltb a z.n) (uses z r d a) (lt-ltb a z.n l) (k.done_use a y).1)
+      | inr y ↦ y ∙ sym (and_right (ltb a z.n) (uses z r d a) (elim (cases_Bool (uses z r d a)) [
+        | inr u ↦ u
+        | inl u ↦ absurd (both_ways (has done a) y (all a l u))
+      ]))
+    ]
+    | inr l ↦ elim (cases_Bool (has done a)) [
+      | inl y ↦ absurd (omega (arith, (k.done_use a y).0))
+      | inr y ↦ y ∙ sym (and_left (ltb a z.n) (uses z r d a) (le-ltb a z.n l))
+    ]
+  ]
+    where
+      in_done : (v : ℕ) → has done v ≡ true ⊎ (has rest v ≡ true) → has done v ≡ true
+      in_done v y = elim y [ inl i ↦ i | inr i ↦ absurd (both_ways (has rest v) (none v) i) ]
+
+      all : (v : ℕ) → v < z.n → uses z r d v ≡ true → has done v ≡ true
+      all = by_next_hops z g d (λ v. v < z.n → uses z r d v ≡ true → has done v ≡ true)
+          (λ v n l u. absurd (both_ways (uses z r d v) (uses_stop z r d v n) u))
+          (λ v e n i l u.
+          let m = hop_within z g d v e (sym n) in
+          elim (cases_Bool (joins r v e)) [
+            | inl j ↦ in_done v (k.first v l (at_some (λ x. joins r v x) (next_hop z d v) e (sym n) ∙ j))
+            | inr j ↦
+                let on : uses z r d e ≡ true = sym (uses_to z g r d v e n ∙ ap (λ b. b || uses z r d e) j) ∙ u in
+                in_done v (k.next v e l (i m on) (at_some (λ x. not (joins r v x) && eqb x e) (next_hop z d v) e (sym n) ∙ (ap (λ b. not b && eqb e e) j ∙ eq-eqb e e refl)))
+          ])
+
+-- one node more is done
+pub undone_falls : (a : ℕ) (done more : NodeSet) → More a done more → a < 64 → has done a ≡ false → count 64 (λ v. not (has more v)) < count 64 (λ v. not (has done v))
+undone_falls a done more m l n =
+    count_lt 64 (λ v. not (has more v)) (λ v. not (has done v)) (λ v y. not_from_false (has done v) (out v (not-true (has more v) y))) a l (ap not (more_in a done more m l)) (ap not n)
+  where
+    out : (v : ℕ) → has more v ≡ false → has done v ≡ false
+    out v y = elim (cases_Bool (has done v)) [ inr i ↦ i | inl i ↦ absurd (both_ways (has more v) y (more_still a done more m v i)) ]

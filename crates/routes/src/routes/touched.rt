@@ -1,10 +1,9 @@
-ghost use Rattle.std.specs.Prelude.{◌≡◌, ℕ, ◌<◌, ◌&&◌, ◌||◌, ◌==◌, nat_lt};
+ghost use Rattle.std.specs.Prelude.{◌≡◌, ◌<◌};
 ghost use Rattle.links.specs.Link.{ends};
-ghost use Rattle.links.specs.NodeSets.{has};
 ghost use Rattle.routes.specs.NextHops.{hop_of};
 ghost use Rattle.routes.specs.Routes.{routes_network};
-ghost use Rattle.routes.specs.Touched.{Known, Noted, Touched};
-ghost use Rattle.theory.specs.NextHop.{next_hop, uses};
+ghost use Rattle.routes.specs.Touched.{Sorted, Touched};
+ghost use Rattle.theory.specs.NextHop.{next_hop};
 
 use super::Routes;
 use crate::matrix::cell;
@@ -12,58 +11,47 @@ use links::link::LinkId;
 use links::node::NodeId;
 use links::node_set::NodeSet;
 
-// The nodes of which it is known whether their paths use a link, and those of them whose paths do.
+// The nodes by how they send: those that send over a link, and by node those that send to it over another.
 #[derive(Clone, Copy)]
-pub(crate) struct Memo {
-    known: NodeSet,
-    touched: NodeSet,
-}
-
-impl Memo {
-    // Of the node a it is known now.
-    fn note(&mut self, a: NodeId, touched: bool)
-        ensures known { (v : ℕ) → has self.new.known v ≡ ((v == a.0 && nat_lt v 64) || has self.old.known v) }
-        ensures touched { (v : ℕ) → has self.new.touched v ≡ ((touched && (v == a.0 && nat_lt v 64)) || has self.old.touched v) }
-    {
-        self.known.insert(a);
-        if touched {
-            self.touched.insert(a);
-        }
-    }
+pub(crate) struct Senders {
+    over: NodeSet,
+    to: [NodeSet; 64],
 }
 
 impl Routes {
-    // The nodes whose path to d uses the link.
+    // The nodes whose path to d uses the link: who sends over it, and who sends to one of these.
     pub(super) fn touched(&self, link: LinkId, d: NodeId) -> NodeSet
         requires { d.0 < (routes_network self.now).n }
         ensures { Touched (routes_network self.now) (ends link) d.0 result }
     {
-        let mut memo = Memo {
-            known: NodeSet::empty(),
-            touched: NodeSet::empty(),
-        };
-        for a in 0..self.nodes() {
-            self.is_touched(link, d, NodeId(a), &mut memo);
+        let senders = self.senders(link, d);
+        let mut touched = NodeSet::empty();
+        let mut rest = senders.over;
+        while let Some(a) = rest.take_first() {
+            touched.insert(a);
+            rest = rest.or(senders.to[a.0 as usize].minus(touched));
         }
-        memo.touched
+        touched
     }
 
-    // Does the path of a node to d use it? What is found is noted, so that no path is followed twice.
-    fn is_touched(&self, link: LinkId, d: NodeId, a: NodeId, memo: &mut Memo) -> bool
-        requires within { (d.0 < (routes_network self.now).n) × (a.0 < (routes_network self.now).n) }
-        requires so_far { Known (routes_network self.now) (ends link) d.0 memo.old }
-        ensures value { result ≡ uses (routes_network self.now) (ends link) d.0 a.0 }
-        ensures known { Noted (routes_network self.now) (ends link) d.0 a.0 memo.old memo.new }
+    // How they send packets for d.
+    fn senders(&self, link: LinkId, d: NodeId) -> Senders
+        requires { d.0 < (routes_network self.now).n }
+        ensures { Sorted (routes_network self.now) (ends link) d.0 (routes_network self.now).n result }
     {
-        if memo.known.contains(a) {
-            return memo.touched.contains(a);
-        }
-        let touched = match self.hop(d, a) {
-            Some(e) => link.joins(a, e) || self.is_touched(link, d, e, memo),
-            None => false,
+        let mut senders = Senders {
+            over: NodeSet::empty(),
+            to: [NodeSet::empty(); 64],
         };
-        memo.note(a, touched);
-        touched
+        for a in 0..self.nodes() {
+            let a = NodeId(a);
+            match self.hop(d, a) {
+                Some(e) if link.joins(a, e) => senders.over.insert(a),
+                Some(e) => senders.to[e.0 as usize].insert(a),
+                None => {}
+            }
+        }
+        senders
     }
 
     // The next hop of a node for another, both of the network.

@@ -1,4 +1,4 @@
-use Rattle.std.proofs.Common.{◌≡◌, ℕ, ◌+◌, ◌*◌, get_or, sym, subst, ap, ◌∙◌, arith}
+use Rattle.std.proofs.Common.{ℕ, ◌+◌, ◌*◌, get_or, sym, subst, ap, arith}
 use Rattle.routes.proofs.Neighbours.{Below, below_none, below_more, below_kept}
 use Rattle.routes.proofs.matrix.neighbours.linked.Goals.{then-costs-cell-gt0, else-costs-cell-gt0}
 use Rattle.routes.proofs.matrix.neighbours.linked.Goals as goal

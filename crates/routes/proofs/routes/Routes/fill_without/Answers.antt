@@ -1,4 +1,4 @@
-use Rattle.std.proofs.Common.{◌≡◌, subst, arith}
+use Rattle.std.proofs.Common.{subst, arith}
 use Rattle.links.specs.Link.{ends}
 use Rattle.theory.specs.Network.{Network, without}
 use Rattle.routes.specs.NextHops.{HopBy}

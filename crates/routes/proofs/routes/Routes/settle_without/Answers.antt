@@ -1,14 +1,14 @@
-use Rattle.std.proofs.Common.{◌≡◌, ℕ, ◌+◌, ◌*◌, true, ◌&&◌, not, ltb, get_or, sym, subst, ◌∙◌, ap, arith}
+use Rattle.std.proofs.Common.{◌≡◌, ℕ, ◌+◌, ◌*◌, ◌&&◌, not, ltb, get_or, subst, ◌∙◌, ap, arith}
 use Rattle.links.specs.Link.{ends}
 use Rattle.links.specs.NodeSets.{has}
-use Rattle.theory.specs.Network.{Network, without}
+use Rattle.theory.specs.Network.{Network}
 use Rattle.routes.specs.Dijkstra.{LeastOver}
 use Rattle.routes.specs.Distances.{Filled}
 use Rattle.routes.specs.Routes.{routes_network}
 use Rattle.routes.specs.Settling.{Standing}
 use Rattle.routes.proofs.Costs.{matrix_lawful, matrix_limited}
 use Rattle.routes.proofs.Sets.{size_falls}
-use Rattle.routes.proofs.Starting.{begun_none, begun_more, begun_all, touched_within}
+use Rattle.routes.proofs.Starting.{begun_none, begun_more, begun_all}
 use Rattle.routes.proofs.routes.Routes.settle_without.Goals as goal
 
 pub loop-a-init : goal.loop-a-init
@@ -35,5 +35,5 @@ pub returns : goal.returns
 returns c =
     let r = c.args.self.now in
     let s = begun_all (routes_network r) (matrix_lawful r.costs) (matrix_limited r.costs) (ends c.args.link) c.args.d.0 c.requires.within c.args.touched c.requires.touched (λ a. get_or r.distances (c.args.d.0 * 64 + a) 0) (λ a p. r.near c.args.d.0 a (c.requires.within, p))
-        c.loop-a.rest c.loop-a.dist c.in_default.ensures.1 c.loop-a.invariant in
+    c.loop-a.rest c.loop-a.dist c.in_default.ensures.1 c.loop-a.invariant in
     subst (λ (y : Network). Standing y c.args.d.0 c.args.touched c.loop-a.dist → Filled y c.args.d.0 c.settle_rest.new.dist) c.without-left.ensures (c.settle_rest.ensures c.args.d.0) s

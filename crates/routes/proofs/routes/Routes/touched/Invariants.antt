@@ -1,9 +1,14 @@
-use Rattle.std.proofs.Common.{◌≡◌, ℕ, ◌<◌, true}
+use Rattle.std.proofs.Common.{not}
 use Rattle.links.specs.Link.{ends}
 use Rattle.links.specs.NodeSets.{has}
 use Rattle.routes.specs.Routes.{routes_network}
-use Rattle.routes.specs.Touched.{Known}
+use Rattle.theory.proofs.Distances.{count}
+use Rattle.routes.proofs.TouchedNodes.{Found}
 use Rattle.routes.proofs.routes.Routes.touched.Given as goal
 
 abbrev pub invariant-loop-a : goal.invariant-loop-a
-invariant-loop-a l = Known (routes_network l.self) (ends l.link) l.d.0 l.memo × ((a : ℕ) → a < l.a → has l.memo.known a ≡ true)
+invariant-loop-a l = Found (routes_network l.self) (ends l.fn.link) l.fn.d.0 l.touched l.rest
+
+-- each step one node more is done
+abbrev pub decreases-loop-a : goal.decreases-loop-a
+decreases-loop-a l = count 64 (λ a. not (has l.touched a))

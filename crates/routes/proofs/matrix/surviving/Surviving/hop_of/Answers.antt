@@ -1,6 +1,5 @@
-use Rattle.std.proofs.Common.{◌≡◌, ap, sym, subst, get_or, inl, inr, ◌∙◌, arith}
-use Rattle.std.proofs.lemmas.Bool.{both_ways, cases_eq, cases_Bool}
-use Rattle.links.specs.NodeSets.{has}
+use Rattle.std.proofs.Common.{ap, sym, subst, get_or, inl, inr, ◌∙◌, arith}
+use Rattle.std.proofs.lemmas.Bool.{cases_eq}
 use Rattle.routes.specs.NextHops.{hop_of, Near}
 use Rattle.routes.specs.Surviving.{surviving_network}
 use Rattle.routes.proofs.LeftNetwork.{surviving_lawful, surviving_limited}
@@ -18,8 +17,7 @@ pub nearest-preserved : goal.nearest-preserved
 nearest-preserved c =
     let i = c.nearest.invariant in
     let t = c.in-Some.ensures in
-    let e = c.in-Some.e.0 in
-    (
+    let e = c.in-Some.e.0 in (
       i.0,
       (λ y h. i.1 y (left_in c.nearest.rest c.take_first.new.self e t.1 y h)),
       λ y link n near. elim (cases_eq y e) [

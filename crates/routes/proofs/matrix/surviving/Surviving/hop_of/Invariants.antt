@@ -1,4 +1,4 @@
-use Rattle.std.proofs.Common.{◌≡◌, ℕ, ◌<◌, None, true, false, ltb}
+use Rattle.std.proofs.Common.{◌≡◌, ℕ, None, true, false, ltb}
 use Rattle.links.specs.NodeSets.{has}
 use Rattle.routes.specs.NextHops.{Near}
 use Rattle.routes.specs.Surviving.{surviving_network}

@@ -1,4 +1,4 @@
-use Rattle.std.proofs.Common.{◌≡◌, ap, get_or, ◌∙◌}
+use Rattle.std.proofs.Common.{ap, get_or, ◌∙◌}
 use Rattle.routes.specs.Dijkstra.{relaxed}
 use Rattle.routes.specs.Surviving.{surviving_network}
 use Rattle.routes.proofs.Relaxing.{least_more}

@@ -1,4 +1,4 @@
-use Rattle.std.proofs.Common.{◌≡◌, ◌∙◌, ap, refl, ltb, ◌&&◌, arith}
+use Rattle.std.proofs.Common.{◌∙◌, ap, refl, ltb, ◌&&◌, arith}
 use Rattle.routes.specs.Surviving.{surviving_network}
 use Rattle.routes.proofs.LeftNetwork.{surviving_lawful, surviving_limited}
 use Rattle.routes.proofs.Settled.{stands_none}

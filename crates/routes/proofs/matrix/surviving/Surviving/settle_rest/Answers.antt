@@ -1,4 +1,4 @@
-use Rattle.std.proofs.Common.{◌≡◌, ◌∙◌, ap, sym, ◌&&◌, arith}
+use Rattle.std.proofs.Common.{◌∙◌, ap, ◌&&◌, arith}
 use Rattle.links.specs.NodeSets.{has}
 use Rattle.routes.specs.Surviving.{surviving_network}
 use Rattle.routes.proofs.LeftNetwork.{surviving_lawful, surviving_limited}
@@ -16,8 +16,7 @@ loop-u-preserved c =
     let s = c.args.self.now in
     let z = surviving_network s in
     let i = c.loop-u.invariant in
-    let n = c.in-Some.ensures in
-    (
+    let n = c.in-Some.ensures in (
       λ v h. i.0 v (left_in c.loop-u.unsettled c.remove.new.self c.in-Some.u.0 c.remove.ensures v h),
       c.relax.ensures.size ∙ i.1,
       λ d h. stands_more z (surviving_lawful s) (surviving_limited s) d c.loop-u.unsettled c.loop-u.dist (i.2 d h) c.in-Some.u n c.remove.new.self c.remove.ensures c.and.result c.relax.new.dist (λ e. c.and.ensures e ∙ ap (λ b. b && has c.remove.new.self e) (c.neighbours.ensures e)) c.relax.ensures,
