@@ -128,6 +128,7 @@ impl<'a> Protected<'a> {
         requires within { d.0 < (matrix_network rest.now).n }
         ensures { repair_of result ≡ last_reached (link_network self.now) self.now.s.0 self.now.f.0 self.now.s.0 (path (matrix_network rest.now) d.0 self.now.s.0) }
     {
+        // no heap here: an array, of which the first n places are lent
         let mut room = [0u32; 64];
         let dist = &mut room[0..rest.nodes() as usize];
         rest.distances(d, dist).ok()?;
