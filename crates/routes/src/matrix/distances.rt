@@ -65,7 +65,7 @@ fn nearest(unsettled: &[NodeId], dist: &[u32]) -> Option<usize>
     requires { Below unsettled.now (length dist.now) }
     ensures { IsNearest unsettled.now dist.now result }
 {
-    // a chain would make pairs of a distance and a place, and take them apart again
+    // by min_by_key over the places and a filter the proof didn't close: not even that the place it gives is below the length
     let mut best = None;
     let mut least = NEVER;
     for (i, node) in unsettled.iter().enumerate() {
