@@ -7,8 +7,6 @@ use links::node::NodeId;
 use links::topology::Topology;
 use packets::packet::Packet;
 use packets::segment::Segment;
-use std::alloc::Global;
-use std::process::Abort;
 use std::test::Fail;
 
 // What becomes of a packet at a router: where it is sent, to which neighbour, and how many segments it then has.
@@ -153,15 +151,11 @@ const CASES: [Case; 9] = [
 ];
 
 // Each packet, at a router that learns of a failure in this way.
-fn check<F: Fn(&mut Forwarder) -> Result<(), Fault>>(
-    rt: &impl Abort,
-    heap: Global,
-    learn: F,
-) -> Result<(), Fail>
+fn check<F: Fn(&mut Forwarder) -> Result<(), Fault>>(rt: &HostRuntime, learn: F) -> Result<(), Fail>
     requires { F.IsAlwaysCallable learn }
 {
     for case in CASES.iter() {
-        let topology = Topology::read(heap, case.bytes)?;
+        let topology = Topology::read(rt.alloc(), case.bytes)?;
         let mut forwarder = Forwarder::new(&topology, NodeId(case.at))?;
         if case.down {
             learn(&mut forwarder)?;
@@ -175,13 +169,13 @@ fn check<F: Fn(&mut Forwarder) -> Result<(), Fault>>(
 
 #[test]
 fn forwarded(rt: HostRuntime) -> Result<(), Fail> {
-    check(&rt, rt.alloc(), |forwarder| forwarder.fail(FAILED))
+    check(&rt, |forwarder| forwarder.fail(FAILED))
 }
 
 // The same packets where the router learns of the failure, as one that switches does.
 #[test]
 fn forwarded_by_learning(rt: HostRuntime) -> Result<(), Fail> {
-    check(&rt, rt.alloc(), |forwarder| {
+    check(&rt, |forwarder| {
         forwarder.learn(FAILED);
         Ok(())
     })

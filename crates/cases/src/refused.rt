@@ -1,7 +1,6 @@
 // Bytes that a reader refuses.
 use links::fault::Fault;
 use links::wire::ReadError;
-use std::process::Abort;
 use std::test::Fail;
 
 // By which fault, and at which byte.
@@ -14,7 +13,7 @@ pub(crate) struct Refused {
 
 // The reader refuses each of them as the case says.
 pub(crate) fn check_refused<T: Drop, F: Fn(&[u8]) -> Result<T, ReadError>>(
-    rt: &impl Abort,
+    rt: &HostRuntime,
     cases: &[Refused],
     read: F,
 ) -> Result<(), Fail>
