@@ -206,6 +206,7 @@ struct Pending<'a>(&'a Router);
 
 impl fmt::Display for Pending<'_> {
     fn fmt<W: fmt::Write>(&self, f: &mut fmt::Formatter<W>) -> fmt::Result {
+        // The pairs by `repeat`, since a closure can't give out an iterator that holds another.
         let Pending(router) = *self;
         let nodes = router.forwarder().nodes();
         let mut pending = (0..nodes)
