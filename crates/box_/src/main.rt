@@ -1,7 +1,7 @@
 // One router: frames on standard input, and what it hands on and says on standard output.
 #![tactic(auto)]
 
-use console::{Ending, ended, number, print};
+use console::{Ending, ended, number};
 use links::fault::Fault;
 use links::node::NodeId;
 use receiving::answering::answer;
@@ -93,7 +93,7 @@ impl Station {
 
     // What is to be written is written.
     fn hand_out(&mut self, rt: &HostRuntime) -> Result<(), Ending> {
-        print(rt, self.out.as_slice())?;
+        rt.stdout().write_all(self.out.as_slice())?;
         rt.stderr().write_all(self.faults.as_bytes())?;
         self.out.clear();
         self.faults.clear();

@@ -1,5 +1,5 @@
 // Packets and messages in bytes, in a network of four nodes: what is read, what is refused and where, and what is written.
-use crate::refused::{Refused, check_refused};
+use crate::refused::Refused;
 use links::fault::Fault;
 use links::link::LinkId;
 use links::node::NodeId;
@@ -156,12 +156,15 @@ const BAD_FROM_SENDER: [Refused; 2] = [
 
 #[test]
 fn refused_packets(rt: HostRuntime) -> Result<(), Fail> {
-    check_refused(&rt, &BAD_FROM_NEIGHBOUR, |bytes| {
-        read_packet(bytes, NODES, Origin::Neighbour)
-    })?;
-    check_refused(&rt, &BAD_FROM_SENDER, |bytes| {
-        read_packet(bytes, NODES, Origin::Sender)
-    })
+    for case in BAD_FROM_NEIGHBOUR.iter() {
+        let read = read_packet(case.bytes, NODES, Origin::Neighbour);
+        assert_eq!(rt; read.err(), case.error(), "{}", case.name);
+    }
+    for case in BAD_FROM_SENDER.iter() {
+        let read = read_packet(case.bytes, NODES, Origin::Sender);
+        assert_eq!(rt; read.err(), case.error(), "{}", case.name);
+    }
+    Ok(())
 }
 
 // A packet that is read, and its fields.
@@ -328,7 +331,11 @@ const BAD_MESSAGES: [Refused; 12] = [
 
 #[test]
 fn refused_messages(rt: HostRuntime) -> Result<(), Fail> {
-    check_refused(&rt, &BAD_MESSAGES, |bytes| read_message(bytes, NODES))
+    for case in BAD_MESSAGES.iter() {
+        let read = read_message(case.bytes, NODES);
+        assert_eq!(rt; read.err(), case.error(), "{}", case.name);
+    }
+    Ok(())
 }
 
 const UNTURNED: LinkId = LinkId {

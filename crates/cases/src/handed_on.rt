@@ -8,7 +8,6 @@ use links::topology::Topology;
 use packets::packet::Packet;
 use packets::segment::Segment;
 use std::alloc::Global;
-use std::process::Abort;
 use std::test::Fail;
 
 // What becomes of a packet at a router: where it is sent, to which neighbour, and how many segments it then has.
@@ -152,37 +151,41 @@ const CASES: [Case; 9] = [
     },
 ];
 
-// Each packet, at a router that learns of a failure in this way.
-fn check<F: Fn(&mut Forwarder) -> Result<(), Fault>>(
-    rt: &impl Abort,
+// What becomes of the packet at a router that learns of a failure in this way.
+fn forwarded_at<F: Fn(&mut Forwarder) -> Result<(), Fault>>(
     heap: Global,
+    case: &Case,
     learn: F,
-) -> Result<(), Fail>
+) -> Result<Fate, Fail>
     requires { F.IsAlwaysCallable learn }
 {
+    let topology = Topology::read(heap, case.bytes)?;
+    let mut forwarder = Forwarder::new(&topology, NodeId(case.at))?;
+    if case.down {
+        learn(&mut forwarder)?;
+    }
+    let packet = Packet::new(NodeId(case.destination), segments_of(case.segments)?);
+    Ok(Fate::from(forwarder.forward(packet)))
+}
+
+#[test]
+fn forwarded(rt: HostRuntime) -> Result<(), Fail> {
     for case in CASES.iter() {
-        let topology = Topology::read(heap, case.bytes)?;
-        let mut forwarder = Forwarder::new(&topology, NodeId(case.at))?;
-        if case.down {
-            learn(&mut forwarder)?;
-        }
-        let packet = Packet::new(NodeId(case.destination), segments_of(case.segments)?);
-        let fate = Fate::from(forwarder.forward(packet));
+        let fate = forwarded_at(rt.alloc(), case, |forwarder| forwarder.fail(FAILED))?;
         assert_eq!(rt; fate, case.fate, "{}", case.name);
     }
     Ok(())
 }
 
-#[test]
-fn forwarded(rt: HostRuntime) -> Result<(), Fail> {
-    check(&rt, rt.alloc(), |forwarder| forwarder.fail(FAILED))
-}
-
 // The same packets where the router learns of the failure, as one that switches does.
 #[test]
 fn forwarded_by_learning(rt: HostRuntime) -> Result<(), Fail> {
-    check(&rt, rt.alloc(), |forwarder| {
-        forwarder.learn(FAILED);
-        Ok(())
-    })
+    for case in CASES.iter() {
+        let fate = forwarded_at(rt.alloc(), case, |forwarder| {
+            forwarder.learn(FAILED);
+            Ok(())
+        })?;
+        assert_eq!(rt; fate, case.fate, "{}", case.name);
+    }
+    Ok(())
 }

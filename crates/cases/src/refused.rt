@@ -1,8 +1,6 @@
 // Bytes that a reader refuses.
 use links::fault::Fault;
 use links::wire::ReadError;
-use std::process::Abort;
-use std::test::Fail;
 
 // By which fault, and at which byte.
 pub(crate) struct Refused {
@@ -12,20 +10,12 @@ pub(crate) struct Refused {
     pub(crate) at: usize,
 }
 
-// The reader refuses each of them as the case says.
-pub(crate) fn check_refused<T: Drop, F: Fn(&[u8]) -> Result<T, ReadError>>(
-    rt: &impl Abort,
-    cases: &[Refused],
-    read: F,
-) -> Result<(), Fail>
-    requires { F.IsAlwaysCallable read }
-{
-    for case in cases.iter() {
-        let expected = ReadError {
-            fault: case.fault,
-            at: case.at,
-        };
-        assert_eq!(rt; read(case.bytes).err(), Some(expected), "{}", case.name);
+impl Refused {
+    // What the reader is to answer.
+    pub(crate) fn error(&self) -> Option<ReadError> {
+        Some(ReadError {
+            fault: self.fault,
+            at: self.at,
+        })
     }
-    Ok(())
 }

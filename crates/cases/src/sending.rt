@@ -11,7 +11,7 @@ use std::alloc::Global;
 use std::process::Abort;
 use std::test::Fail;
 
-// What has happened before the packet is sent.
+// What has happened before the packet is sent. Named, as a table can't hold closures: each has a type of its own.
 enum Before {
     Nothing,
     EndsKnow,

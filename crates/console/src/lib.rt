@@ -1,6 +1,10 @@
 // What the programs do alike: read numbers and their inputs, print, and say why they end.
 #![tactic(auto)]
 
+ghost use Rattle.std.specs.Prelude.{Ok, Err, MatchOption};
+ghost use Rattle.std.specs.List.{All};
+ghost use Rattle.std.specs.Char.{IsAsciiDigit};
+
 use links::fault::Fault;
 use links::wire::ReadError;
 use std::alloc::AllocError;
@@ -33,7 +37,11 @@ pub enum Ending {
 }
 
 // The number that a word of digits stands for. `parse` takes a sign, too.
-pub fn number<N: FromStr<Err = ParseIntError>>(word: &str) -> Option<N> {
+pub fn number<N: FromStr<Err = ParseIntError>>(word: &str) -> Option<N>
+    ensures { MatchOption result
+        (All IsAsciiDigit word.now → (e : _) × N.from_str_gives word.now (Err e))
+        (λ n. All IsAsciiDigit word.now × N.from_str_gives word.now (Ok n)) }
+{
     if word.bytes().all(|byte| byte.is_ascii_digit()) {
         word.parse().ok()
     } else {
@@ -55,21 +63,16 @@ fn named_file(rt: &HostRuntime, path: &str) -> Result<Vec<u8>, Ending> {
 }
 
 // The bytes of standard input.
-pub fn standard_input(rt: &HostRuntime) -> Result<Vec<u8>, Ending> {
+fn standard_input(rt: &HostRuntime) -> Result<Vec<u8>, Ending> {
     let mut bytes = Vec::new(rt.alloc());
     rt.stdin().read_to_end(&mut bytes)?;
     Ok(bytes)
 }
 
-// Writes on standard output.
-pub fn print(rt: &HostRuntime, bytes: &[u8]) -> Result<(), Ending> {
-    Ok(rt.stdout().write_all(bytes)?)
-}
-
 // Prints the help that was asked for, and writes any other reason for ending early on standard error.
 pub fn ended(rt: &HostRuntime, res: Result<(), Ending>) -> ExitCode {
     let res = match res {
-        Err(Ending::Help(help)) => print(rt, help.as_bytes()),
+        Err(Ending::Help(help)) => rt.stdout().write_all(help.as_bytes()).map_err(Ending::Io),
         res => res,
     };
     match res {

@@ -1,6 +1,6 @@
 -- A router comes to know that a link of its list is down. Assumes nothing.
-use Rattle.std.specs.Prelude.{◌≡◌, ℕ, cond, [], Some, None, Ok, Err, Option, Result, MatchResult}
-use Rattle.links.specs.Fault.{number}
+use Rattle.std.specs.Prelude.{◌≡◌, cond, [], Some, None, Ok, Err, Option, Result, MatchResult}
+use Rattle.links.specs.Fault.{numbered}
 use Rattle.links.specs.declared.fault.Fault.{Fault}
 use Rattle.theory.specs.Network.{LinkId}
 use Rattle.protocol.specs.Router.{Router, Failure, NoFailure, Down, Reply, Refused, Stays, Goes, has_link, same_link}
@@ -22,16 +22,12 @@ after s (Refused k) = None
 after s Stays = Some s
 after s (Goes t _) = Some t
 
-abbrev pub refused_by : Option ℕ → Reply
-refused_by None = Refused 0
-refused_by (Some k) = Refused k
-
 -- what the failure is to it: news, a repeat, or refused by a fault's number
 abbrev pub Weighed : LinkId → Router → Result Report Fault → Type 0
 Weighed l s (Ok News) = failing l s ≡ Goes (knowing l s) []
 Weighed l s (Ok Repeated) = failing l s ≡ Stays
-Weighed l s (Err f) = failing l s ≡ refused_by (number f)
+Weighed l s (Err f) = failing l s ≡ Refused (numbered f)
 
 -- accepted, or refused by a fault's number, and then nothing changes
 abbrev pub FailAsked : LinkId → Router → Router → {A : Type 0} → Result A Fault → Type 0
-FailAsked l old new r = MatchResult r (λ _. after old (failing l old) ≡ Some new) (λ f. (failing l old ≡ refused_by (number f)) × (new ≡ old))
+FailAsked l old new r = MatchResult r (λ _. after old (failing l old) ≡ Some new) (λ f. (failing l old ≡ Refused (numbered f)) × (new ≡ old))

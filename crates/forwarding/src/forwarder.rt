@@ -21,7 +21,8 @@ pub(crate) struct KnownFailure {
 
 // A router: its node and the routes of its list of links, its own repairs, and the failure that it knows of. For which
 // destinations it has switched stands beside that: `switch` promises to mark one also where no failure is known. Arrays,
-// as forwarding has no heap.
+// as forwarding has no heap; `switched` of bool and no set of bits, since each packet looks it up by an index, and `NodeSet`
+// stands above, in `switchover`.
 #[derive(Drop)]
 pub struct Forwarder {
     me: NodeId,

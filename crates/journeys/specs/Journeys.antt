@@ -1,6 +1,6 @@
 -- A packet that is played, in the protocol's words. Assumes nothing.
-use Rattle.std.specs.Prelude.{◌≡◌, ℕ, ◌-◌, List, [], ◌∷◌, ◌++◌, length, Some, None, Ok, Err, vec_items, Option, Result, slice_index}
-use Rattle.links.specs.Fault.{number}
+use Rattle.std.specs.Prelude.{◌≡◌, ℕ, ◌-◌, List, [], ◌∷◌, ◌++◌, length, Ok, Err, vec_items, Result, slice_index}
+use Rattle.links.specs.Fault.{numbered}
 use Rattle.links.specs.declared.fault.Fault.{Fault}
 use Rattle.links.specs.declared.fault.Fault.TheVariants.{Memory}
 use Rattle.packets.specs.Packets.{packet_of}
@@ -12,15 +12,10 @@ use Rattle.journeys.specs.declared.journey.Journey.{Journey}
 use Rattle.journeys.specs.declared.journey.State.{State}
 use Rattle.journeys.specs.declared.journey.State.TheVariants.{UnderWay, Delivered, Dropped}
 
--- the number of a fault, 0 for one that has none
-abbrev pub numbered : Option ℕ → ℕ
-numbered None = 0
-numbered (Some k) = k
-
 abbrev pub in_state : State → (at spent : ℕ) → protocol.Flight
 in_state (UnderWay p) u c = protocol.UnderWay u c (packet_of p)
 in_state Delivered u c = protocol.Delivered u c
-in_state (Dropped f) u c = protocol.Dropped u c (numbered (number f))
+in_state (Dropped f) u c = protocol.Dropped u c (numbered f)
 
 -- the nodes at which it has been
 abbrev pub path_of : Journey → List ℕ

@@ -1,9 +1,10 @@
 // Reads a list of links and prints the distances, the next-hop tables and the repairs of the network.
 #![tactic(auto)]
 
-use console::{Ending, ended, print, standard_input};
+use console::{Ending, ended, input};
 use links::topology::Topology;
 use report::plan;
+use std::io::Write;
 use std::process::ExitCode;
 use std::{env, fs};
 use summary::summary;
@@ -58,7 +59,7 @@ fn asked(rt: &HostRuntime) -> Result<Request, Ending> {
 fn list(rt: &HostRuntime, file: Option<String>) -> Result<Vec<u8>, Ending> {
     match file {
         Some(path) => Ok(fs::read(rt, path.as_str())?),
-        None => standard_input(rt),
+        None => input(rt, None),
     }
 }
 
@@ -71,7 +72,7 @@ fn run(rt: &HostRuntime) -> Result<(), Ending> {
         Text::Plan => plan(rt.alloc(), &topology)?,
         Text::Summary => summary(rt.alloc(), &topology)?.into_bytes(),
     };
-    print(rt, bytes.as_slice())
+    Ok(rt.stdout().write_all(bytes.as_slice())?)
 }
 
 fn main(rt: HostRuntime) -> ExitCode {

@@ -74,8 +74,8 @@ impl Count {
         let detours = &all[..routes.nodes() as usize];
         self.name_cut(link, link.a, detours)?;
         self.name_cut(link, link.b, detours)?;
-        for (d, detour) in (0..routes.nodes()).zip(detours.iter()) {
-            self.add(routes, link, NodeId(d), *detour);
+        for (d, detour) in (0..routes.nodes()).map(NodeId).zip(detours.iter()) {
+            self.add(routes, link, d, *detour);
         }
         Ok(())
     }

@@ -1,5 +1,6 @@
 -- The number of each fault. Assumes nothing.
 use Rattle.std.specs.Prelude.{ℕ, Some, None, Option}
+use Rattle.std.specs.Option.{unwrap_or}
 use Rattle.links.specs.declared.fault.Fault.{Fault}
 use Rattle.links.specs.declared.fault.Fault.TheVariants.{Memory, UnknownKind, Truncated, TrailingBytes, WrongLength, NodeCount, NodeOutOfRange, ZeroCost, TooManySenderSegments, SelfLink, HigherFirst, NotRising, NoSuchLink, SecondFailure, NotPending, NoNextHop, NoRepair, TooManySegments, NoHopsLeft, SegmentElsewhere, SegmentLinkDown, DistanceTooLarge}
 
@@ -32,3 +33,7 @@ number SegmentElsewhere = Some 9
 number SegmentLinkDown = Some 9
 -- 10: can't be
 number DistanceTooLarge = Some 10
+
+-- the same, 0 for one that has none
+abbrev pub numbered : Fault → ℕ
+numbered f = unwrap_or (number f) 0

@@ -57,7 +57,8 @@ impl Fault {
     }
 }
 
-// By hand: with thiserror there would be as many lines, and the From below would still be by hand.
+// By hand: a derive would want thiserror, one dependency more for this lowest crate; the From below promise what they give
+// and would stay by hand.
 impl fmt::Display for Fault {
     fn fmt<W: fmt::Write>(&self, f: &mut fmt::Formatter<W>) -> fmt::Result {
         match self {

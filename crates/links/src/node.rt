@@ -4,7 +4,8 @@ ghost use Rattle.links.specs.declared.fault.Fault.TheVariants.{NodeOutOfRange};
 use crate::fault::Fault;
 use std::fmt;
 
-// A node by its number, which counts from 0.
+// A node by its number, which counts from 0. Where it is an index it stands as `.0 as usize`: by a method each goal would
+// have one unknown more. Loops count numbers below n and make a node of each: of a loop over nodes a proof has no index.
 #[derive(Clone, Copy, PartialEq, Eq, PartialOrd, Ord, Debug)]
 pub struct NodeId(pub u8);
 

@@ -14,6 +14,9 @@ use crate::unread::Unread;
 use std::alloc::{AllocFailed, Global};
 use std::fmt;
 
+// The first byte of a list.
+pub const LINKS: u8 = 1;
+
 // Why a list is refused, and the byte at which the faulty piece begins.
 #[derive(Clone, Copy, PartialEq, Eq, Debug)]
 pub struct ReadError {
@@ -27,6 +30,7 @@ impl<T: Drop> From<AllocFailed<T>> for ReadError {
     fn from(_e: AllocFailed<T>) -> ReadError {
         ReadError {
             fault: Fault::Memory,
+            // Want of memory has no place: `at` means nothing here.
             at: 0,
         }
     }
@@ -114,7 +118,7 @@ fn check_link(nodes: u8, last: Option<Link>, link: Link) -> Result<(), Fault>
 fn check_header(kind: u8, nodes: u8) -> Result<(), Fault>
     ensures { result ≡ check_header kind nodes }
 {
-    if kind != 1 {
+    if kind != LINKS {
         Err(Fault::UnknownKind)
     } else if !(1..=64).contains(&nodes) {
         Err(Fault::NodeCount)
@@ -163,7 +167,7 @@ pub(crate) fn write_list(heap: Global, nodes: u8, links: &[Link]) -> Result<Vec<
 {
     let [high, low] = (links.len() as u16).to_be_bytes();
     let mut out = Vec::new(heap);
-    out.extend_from_slice(&[1, nodes, high, low])?;
+    out.extend_from_slice(&[LINKS, nodes, high, low])?;
     write_links(links, &mut out)?;
     Ok(out)
 }

@@ -1,7 +1,6 @@
 -- What a router makes of the bytes that come to it from a node. Assumes nothing.
 use Rattle.std.specs.Prelude.{◌≡◌, ℕ, Bool, true, false, cond, ◌||◌, List, Ok, Err, Result, ◌==◌, nat_lt}
-use Rattle.forwarding.specs.Decisions.{dropped_by}
-use Rattle.links.specs.Fault.{number}
+use Rattle.links.specs.Fault.{numbered}
 use Rattle.links.specs.Wire.{reading}
 use Rattle.links.specs.declared.fault.Fault.{Fault}
 use Rattle.links.specs.declared.fault.Fault.TheVariants.{NoSuchLink}
@@ -37,7 +36,7 @@ DoneAs p d (Ok (received.Delivered q)) = (d ≡ protocol.Deliver) × (packet_of 
 DoneAs p d (Ok (received.Sent v q)) = d ≡ protocol.Send v.0 (packet_of q)
 DoneAs p d (Ok received.Heard) = ⊥
 DoneAs p d (Ok received.Listed) = ⊥
-DoneAs p d (Err f) = d ≡ dropped_by (number f)
+DoneAs p d (Err f) = d ≡ protocol.Drop (numbered f)
 
 -- a packet that is read is forwarded; a fault of reading is the answer
 abbrev pub PacketTaken : Router → Result protocol.Packet ReadError → Result Received Fault → Type 0

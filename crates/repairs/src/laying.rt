@@ -112,6 +112,7 @@ impl<'a> Protected<'a> {
         requires { d.0 < (link_network self.now).n }
         ensures { repair_of result ≡ last_reached (link_network self.now) self.now.s.0 self.now.f.0 self.now.s.0 (path (left_network self.now) d.0 self.now.s.0) }
     {
+        // no heap here: an array, of which the first n places are lent
         let mut room = [0u32; 64];
         let dist = &mut room[0..self.routes.nodes() as usize];
         self.routes.distances_without(self.id(), d, dist).ok()?;

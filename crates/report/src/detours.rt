@@ -38,7 +38,8 @@ impl fmt::Display for Detour {
 }
 
 // For each destination the end of a link that sends over it, and what it has laid up. Where neither sends, it's the second,
-// and so at the places from n on.
+// and so at the places from n on. An array and no Vec of n, which could fail for memory, while `from_fn` says what stands at
+// each place.
 pub fn detours(routes: &Routes, link: LinkId) -> Result<[Detour; 64], Fault>
     ensures { DetoursOf (routes_network routes.now) (ends link) result }
 {

@@ -1,7 +1,7 @@
 // Plays a whole network by a script: links fail, messages arrive, routers switch over, and packets go.
 #![tactic(auto)]
 
-use console::{Ending, ended, input, print};
+use console::{Ending, ended, input};
 use links::topology::Topology;
 use network::network::Network;
 use printing::Number;
@@ -9,6 +9,7 @@ use script::parse;
 use stage::Stage;
 use std::alloc::Global;
 use std::env;
+use std::io::Write;
 use std::process::ExitCode;
 
 mod bad_line;
@@ -81,7 +82,7 @@ fn run(rt: &HostRuntime) -> Result<(), Ending> {
     let script = input(rt, script)?;
     let mut stage = Stage::new(rt.alloc(), Network::new(rt.alloc(), &topology)?);
     let end = play_script(rt.alloc(), &mut stage, script.as_slice());
-    print(rt, stage.printed().as_bytes())?;
+    rt.stdout().write_all(stage.printed().as_bytes())?;
     end
 }
 

@@ -6,6 +6,7 @@ use links::node::NodeId;
 use messages::message::{Message, Sent, Switched};
 use network::network::Network;
 use std::fmt;
+use std::iter::repeat;
 use switchover::router::Router;
 
 // Messages, packets and lines are meant by their indices; what is printed counts from 1.
@@ -45,16 +46,18 @@ pub struct Words<'a>(pub &'a Network);
 
 impl fmt::Display for Words<'_> {
     fn fmt<W: fmt::Write>(&self, f: &mut fmt::Formatter<W>) -> fmt::Result {
-        let network = self.0;
-        let mut none = true;
-        for (k, sent) in network.messages().iter().enumerate() {
-            if network.is_message_under_way(k) {
-                none = false;
-                writeln!(f, "{}: {}", Number(k), Word(*sent))?;
-            }
+        let Words(network) = *self;
+        let mut words = network
+            .messages()
+            .iter()
+            .enumerate()
+            .filter(|(k, _)| network.is_message_under_way(*k))
+            .peekable();
+        if words.peek().is_none() {
+            return f.write_str("no words\n");
         }
-        if none {
-            f.write_str("no words\n")?;
+        for (k, sent) in words {
+            writeln!(f, "{}: {}", Number(k), Word(*sent))?;
         }
         Ok(())
     }
@@ -98,8 +101,8 @@ impl fmt::Display for Waits<'_> {
         let Waits { router, d } = *self;
         let u = router.forwarder().node();
         write!(f, "over {u} {d}: waits for")?;
-        for v in 0..router.forwarder().nodes() {
-            if router.waits_for(d, NodeId(v)) {
+        for v in (0..router.forwarder().nodes()).map(NodeId) {
+            if router.waits_for(d, v) {
                 write!(f, " {v}")?;
             }
         }
@@ -149,8 +152,8 @@ pub struct Routers<'a>(pub &'a Network);
 
 impl fmt::Display for Routers<'_> {
     fn fmt<W: fmt::Write>(&self, f: &mut fmt::Formatter<W>) -> fmt::Result {
-        for u in 0..self.0.nodes() {
-            if let Some(router) = self.0.router(NodeId(u)) {
+        for u in (0..self.0.nodes()).map(NodeId) {
+            if let Some(router) = self.0.router(u) {
                 let table = Table(router.forwarder());
                 writeln!(f, "router {u}: down {}; table{table}", Failure(router))?;
             }
@@ -182,15 +185,16 @@ struct SwitchedFor<'a>(&'a Forwarder);
 
 impl fmt::Display for SwitchedFor<'_> {
     fn fmt<W: fmt::Write>(&self, f: &mut fmt::Formatter<W>) -> fmt::Result {
-        let mut none = true;
-        for d in 0..self.0.nodes() {
-            if self.0.has_switched(NodeId(d)) {
-                none = false;
-                write!(f, " {d}")?;
-            }
+        let SwitchedFor(forwarder) = *self;
+        let mut switched = (0..forwarder.nodes())
+            .map(NodeId)
+            .filter(|d| forwarder.has_switched(*d))
+            .peekable();
+        if switched.peek().is_none() {
+            return f.write_str(" none");
         }
-        if none {
-            f.write_str(" none")?;
+        for d in switched {
+            write!(f, " {d}")?;
         }
         Ok(())
     }
@@ -202,18 +206,18 @@ struct Pending<'a>(&'a Router);
 
 impl fmt::Display for Pending<'_> {
     fn fmt<W: fmt::Write>(&self, f: &mut fmt::Formatter<W>) -> fmt::Result {
-        let nodes = self.0.forwarder().nodes();
-        let mut none = true;
-        for d in 0..nodes {
-            for v in 0..nodes {
-                if self.0.waits_for(NodeId(d), NodeId(v)) {
-                    none = false;
-                    write!(f, " {d}<{v}")?;
-                }
-            }
+        // The pairs by `repeat`, since a closure can't give out an iterator that holds another.
+        let Pending(router) = *self;
+        let nodes = router.forwarder().nodes();
+        let mut pending = (0..nodes)
+            .flat_map(|d| repeat(d).zip(0..nodes))
+            .filter(|(d, v)| router.waits_for(NodeId(*d), NodeId(*v)))
+            .peekable();
+        if pending.peek().is_none() {
+            return f.write_str(" none");
         }
-        if none {
-            f.write_str(" none")?;
+        for (d, v) in pending {
+            write!(f, " {d}<{v}")?;
         }
         Ok(())
     }
@@ -225,8 +229,8 @@ struct Table<'a>(&'a Forwarder);
 
 impl fmt::Display for Table<'_> {
     fn fmt<W: fmt::Write>(&self, f: &mut fmt::Formatter<W>) -> fmt::Result {
-        for d in 0..self.0.nodes() {
-            match self.0.next_hop(NodeId(d)) {
+        for d in (0..self.0.nodes()).map(NodeId) {
+            match self.0.next_hop(d) {
                 Some(hop) => write!(f, " {hop}")?,
                 None => f.write_str(" -")?,
             }

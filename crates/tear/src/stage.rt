@@ -38,25 +38,13 @@ impl Stage {
             Command::Nothing => Ok(()),
             Command::Close(link) => self.close(link),
             Command::Words => Ok(write!(self.out, "{}", Words(&self.network))?),
-            Command::Deliver(k) => {
-                let answer = self.network.deliver(k).ok_or(BadLine::Message(Number(k)))?;
-                self.arrived(k, answer)
-            }
+            Command::Deliver(k) => self.take(k, |network| network.deliver(k)),
             Command::DeliverAll => self.deliver_all(),
-            Command::Again(k) => {
-                let answer = self.network.arrive(k).ok_or(BadLine::Message(Number(k)))?;
-                self.arrived(k, answer)
-            }
+            Command::Again(k) => self.take(k, |network| network.arrive(k)),
             Command::Over(u, d) => self.over(u, d),
             Command::OverAll => self.over_all(),
-            Command::Send(order) => {
-                let q = self.network.send(order)?;
-                Ok(self.print_packet(q)?)
-            }
-            Command::Put(order) => {
-                let q = self.network.put(order)?;
-                Ok(self.print_packet(q)?)
-            }
+            Command::Send(order) => self.start(|network| network.send(order)),
+            Command::Put(order) => self.start(|network| network.put(order)),
             Command::Hop(q) => self.handle(q, |network| network.hop(q)),
             Command::Run(q) => self.handle(q, |network| network.play(q)),
             Command::State => Ok(write!(self.out, "{}", Routers(&self.network))?),
@@ -71,6 +59,18 @@ impl Stage {
         self.network.switch_untouched(link.a)?;
         self.network.switch_untouched(link.b)?;
         Ok(writeln!(self.out, "closed {link}")?)
+    }
+
+    // A message that there isn't, or that has arrived, is a mistake of the script's.
+    fn take<F: FnOnce(&mut Network) -> Option<Result<(), Fault>>>(
+        &mut self,
+        k: usize,
+        taking: F,
+    ) -> Result<(), BadLine>
+        requires { F.IsAlwaysCallable taking }
+    {
+        let answer = taking(&mut self.network).ok_or(BadLine::Message(Number(k)))?;
+        self.arrived(k, answer)
     }
 
     // What comes of a message that has arrived. One that nobody waits for is passed over in silence.
@@ -98,8 +98,8 @@ impl Stage {
         Ok(self.network.switch_untouched(to)?)
     }
 
-    // New messages get higher numbers than all before them, so one walk upwards leaves none under way. It's a count since
-    // there are more of them while it walks.
+    // New messages get higher numbers than all before them, so one walk upwards leaves none under way. There are more of
+    // them while it walks; the bound of the count, which is never reached, is there since a loop has to end.
     fn deliver_all(&mut self) -> Result<(), BadLine> {
         for k in 0..usize::MAX {
             if k >= self.network.messages().len() {
@@ -138,10 +138,10 @@ impl Stage {
     // Has any router switched?
     fn over_round(&mut self) -> Result<bool, BadLine> {
         let mut any = false;
-        for u in 0..self.nodes() {
-            for d in 0..self.nodes() {
-                if self.may_switch(NodeId(u), NodeId(d)) {
-                    self.network.switch(NodeId(u), NodeId(d))?;
+        for u in (0..self.nodes()).map(NodeId) {
+            for d in (0..self.nodes()).map(NodeId) {
+                if self.may_switch(u, d) {
+                    self.network.switch(u, d)?;
                     any = true;
                 }
             }
@@ -153,6 +153,17 @@ impl Stage {
         self.network
             .router(u)
             .is_some_and(|router| router.may_switch(d))
+    }
+
+    // A new packet.
+    fn start<F: FnOnce(&mut Network) -> Result<usize, Fault>>(
+        &mut self,
+        starting: F,
+    ) -> Result<(), BadLine>
+        requires { F.IsAlwaysCallable starting }
+    {
+        let q = starting(&mut self.network)?;
+        Ok(self.print_packet(q)?)
     }
 
     // A packet that there isn't, or that has ended, is a mistake of the script's.

@@ -1,5 +1,5 @@
 -- The clauses of segments_in, by what the code tests. Assumes nothing.
-use Rattle.std.proofs.Common.{◌≡◌, ℕ, zero, suc, ◌-◌, ◌<◌, List, [], ◌∷◌, ◌++◌, length, Some, Ok, Err, Result, refl, ap, ◌∙◌, ap₂, append_assoc, append-nil, arith, rules}
+use Rattle.std.proofs.Common.{◌≡◌, ℕ, zero, suc, ◌+◌, ◌-◌, ◌<◌, List, [], ◌∷◌, ◌++◌, length, Some, Ok, Err, Result, refl, ap, ◌∙◌, ap₂, append_assoc, append-nil, arith, rules}
 use Rattle.links.specs.declared.wire.ReadError.{ReadError}
 use Rattle.protocol.specs.Packet.{Segment, Packet}
 use Rattle.packets.specs.Packets.{with_segments, longer}
@@ -28,16 +28,16 @@ segment_refused zero n m bs p e z q = absurd (omega arith)
 segment_refused (suc k) n m bs p e z q =
     ap (read_as (behind p)) (piece_refused (m - length bs) (judged (segment_fault n) (segment_at bs)) (λ s rest. read_as (λ ss. s ∷ ss) (segments_in k n m rest)) e q)
 
-pub segment_read : (k n m size : ℕ) (bs rest left : List ℕ) (p q : Packet) (s : Segment) (r : Result Packet ReadError) → 0 < k → Ok (s, rest) ≡ placed (m - length bs) (judged (segment_fault n) (segment_at bs)) → q ≡ behind p (s ∷ []) → size ≡ m → left ≡ rest → r ≡ read_as (behind q) (segments_in (k - 1) n size left) → r ≡ read_as (behind p) (segments_in k n m bs)
+pub segment_read : (k i n m size : ℕ) (bs rest left : List ℕ) (p q : Packet) (s : Segment) → i + 1 ≡ k → Ok (s, rest) ≡ placed (m - length bs) (judged (segment_fault n) (segment_at bs)) → q ≡ behind p (s ∷ []) → size ≡ m → left ≡ rest → read_as (behind q) (segments_in i n size left) ≡ read_as (behind p) (segments_in k n m bs)
 unfolding segments_in
-segment_read zero n m size bs rest left p q s r z e l h j t = absurd (omega arith)
-segment_read (suc k) n m size bs rest left p q s r z e l h j t =
-    let i : suc k - 1 ≡ k = omega arith in
-    t ∙ (ap₂ (λ x y. read_as (behind q) (segments_in (suc k - 1) n x y)) h j ∙
-    (ap (λ x. read_as (behind q) (segments_in x n m rest)) i ∙
+segment_read zero i n m size bs rest left p q s z e l h j = absurd (omega arith)
+segment_read (suc k) i n m size bs rest left p q s z e l h j =
+    let y : i ≡ k = omega arith in
+    ap₂ (λ x y. read_as (behind q) (segments_in i n x y)) h j ∙
+    (ap (λ x. read_as (behind q) (segments_in x n m rest)) y ∙
     (ap (λ v. read_as (behind v) (segments_in k n m rest)) l ∙
     (regroup (segments_in k n m rest) ∙
-    ap (read_as (behind p)) (piece_taken (m - length bs) (judged (segment_fault n) (segment_at bs)) (λ x bytes. read_as (λ ss. x ∷ ss) (segments_in k n m bytes)) (s, rest) e)))))
+    ap (read_as (behind p)) (piece_taken (m - length bs) (judged (segment_fault n) (segment_at bs)) (λ x bytes. read_as (λ ss. x ∷ ss) (segments_in k n m bytes)) (s, rest) e))))
   where
     regroup : (x : Result (List Segment) ReadError) → read_as (behind (behind p (s ∷ []))) x ≡ read_as (behind p) (read_as (λ ss. s ∷ ss) x)
     regroup (Ok ss) = ap (λ v. Ok (with_segments p v)) (append_assoc p.segments (s ∷ []) ss)

@@ -3,11 +3,9 @@ ghost use Rattle.wire.specs.Kinds.{kind_in};
 
 use links::fault::Fault;
 use links::unread::Unread;
-use links::wire::ReadError;
+use links::wire::{LINKS, ReadError};
 
-// The first byte of each kind.
-const LINKS: u8 = 1;
-
+// The first byte of each kind; that of a list of links stands in `links`.
 pub(crate) const PACKET: u8 = 2;
 
 pub(crate) const LINK_DOWN: u8 = 3;

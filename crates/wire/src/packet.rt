@@ -31,21 +31,24 @@ fn check(origin: Origin, nodes: u8, kind: u8, destination: NodeId, count: u8) ->
     }
 }
 
-// The segments that are not yet read, put behind those of the packet: so many are left. They are handed on as the rest of the
-// bytes.
-fn read_segments(unread: Unread, nodes: u8, left: u8, packet: Packet) -> Result<Packet, ReadError>
-    requires { length (packet_of packet).segments + left ≤ 5 }
-    ensures { read_as packet_of result ≡ read_as (λ ss. with_segments (packet_of packet) ((packet_of packet).segments ++ ss)) (segments_in left nodes unread.entry.size unread.entry.bytes.now) }
+// So many segments, put behind those of the packet, and then the end. Those that are not yet read are handed on as the rest
+// of the bytes.
+fn read_segments(unread: Unread, nodes: u8, count: u8, packet: Packet) -> Result<Packet, ReadError>
+    requires { length (packet_of packet).segments + count ≤ 5 }
+    ensures { read_as packet_of result ≡ read_as (λ ss. with_segments (packet_of packet) ((packet_of packet).segments ++ ss)) (segments_in count nodes unread.entry.size unread.entry.bytes.now) }
 {
-    if left == 0 {
-        unread.end()?;
-        return Ok(packet);
+    let mut longer = packet;
+    let mut rest = unread;
+    for _ in 0..count {
+        let (segment, more) = rest.piece(next_segment(rest.bytes, nodes))?;
+        let Some(next) = longer.with_last(segment) else {
+            return rest.piece(Err(Fault::TooManySegments));
+        };
+        longer = next;
+        rest = rest.after(more);
     }
-    let (segment, rest) = unread.piece(next_segment(unread.bytes, nodes))?;
-    let Some(longer) = packet.with_last(segment) else {
-        return unread.piece(Err(Fault::TooManySegments));
-    };
-    read_segments(unread.after(rest), nodes, left - 1, longer)
+    rest.end()?;
+    Ok(longer)
 }
 
 // Reads a packet in a network of so many nodes. No two lists of bytes read as the same one.

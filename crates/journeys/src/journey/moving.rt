@@ -43,7 +43,7 @@ impl Journey {
             Outcome::Sent { to, packet } => {
                 let cost = cost_of(router, self.at(), to);
                 self.path.push(to)?;
-                self.spent += cost as u32;
+                self.spent += u32::from(cost);
                 self.state = State::UnderWay(packet);
             }
         }

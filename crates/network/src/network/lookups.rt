@@ -20,7 +20,7 @@ impl Network {
         ensures value { result ≡ nodes_in self.now }
         ensures bound { result ≤ 64 }
     {
-        // no plainer by map_or, which has the 0 come before the router
+        // by map_or the closure would need a clause of its own: at the goal nothing that may be cited says what it answered
         match self.routers.first() {
             Some(router) => router.forwarder().nodes(),
             None => 0,

@@ -15,9 +15,7 @@ impl Network {
     pub fn put(&mut self, order: Order) -> Result<usize, Fault>
         ensures { PutAsked order.start.0 (fresh order.destination.0 (sender_segments order.segments)) self.old self.new result }
     {
-        if order.start.0 as usize >= self.routers.len() {
-            return Err(Fault::NodeOutOfRange);
-        }
+        order.start.check(self.nodes())?;
         let number = self.journeys.len();
         let journey = Journey::new(*self.journeys.allocator(), order)?;
         self.journeys.push(journey)?;

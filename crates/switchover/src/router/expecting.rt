@@ -20,6 +20,7 @@ impl Router {
         array::from_fn(|d| self.expected_for(link, NodeId(d as u8)))
     }
 
+    // Link and destination stand apart, since a Switched is made for each neighbour.
     fn expected_for(&self, link: LinkId, destination: NodeId) -> NodeSet
         ensures { IsSetOf ((learn (ends link) (model self.now)).pending destination.0) result }
     {

@@ -26,6 +26,8 @@ impl Router {
         }
     }
 
+    // Link and destination stand apart, here and below: a Switched has its sender too, and a clause more would have to ask for
+    // this router there.
     fn switch_over(
         &mut self,
         link: LinkId,

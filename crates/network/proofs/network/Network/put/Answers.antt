@@ -11,7 +11,7 @@ invariant_of-self c =
     let net = c.args.self.now in
     let j = c.in_ok-journey.journey in
     let e : place_of j ≡ c.args.order.start.0 = sym (node_in_lem j) ∙ ap node_in c.in_ok-journey.ensures.0 in
-    let l : place_of j < length (vec_items net.routers) = omega (arith, c.len.ensures, net.routers.ok) in
+    let l : place_of j < length (vec_items net.routers) = grind (arith, c.nodes.ensures.value, c.check.ensures) in
     record { in_place = net.in_place; in_reach = inside_pushed (length (vec_items net.routers)) (vec_items net.journeys) (vec_items c.push.new.self) j _ c.push.ensures.items net.in_reach l }
 
 pub returns : goal.returns
