@@ -235,7 +235,7 @@ type Words = &'static [&'static str];
 /// The ways in which a program can be called.
 fn calls(form: Form) -> &'static [Words] {
     match form {
-        Form::Plan => &[&[], &["FILE"]],
+        Form::Plan | Form::QuickPlan => &[&[], &["FILE"]],
         Form::Summary => &[&["--summary"], &["--summary", "FILE"], &["FILE", "--summary"]],
     }
 }

@@ -3,6 +3,7 @@
 use crate::support::{random_networks, topology, without};
 use reference::adjacency::Adjacency;
 use reference::node::NodeId;
+use reference::quick;
 use reference::repairs::{protections, Protection, Repair};
 use reference::routes::Routes;
 use reference::topology::{Link, Topology};
@@ -142,6 +143,19 @@ fn a_repair_costs_what_the_path_without_the_link_costs() {
                     }
                 }
             }
+        }
+    }
+}
+
+/// Only what a failed link touches is worked out anew, and nothing else comes of it.
+#[test]
+fn quick_as_well() {
+    for network in random_networks() {
+        let adjacency = Adjacency::of(&network);
+        let routes = Routes::new(&network, &adjacency);
+        for &link in network.links() {
+            let plain = protections(link, &network, &adjacency, &routes);
+            assert_eq!(quick::protections(link, &network, &adjacency, &routes), plain, "{link}");
         }
     }
 }

@@ -3,6 +3,7 @@ ghost use Rattle.links.specs.Link.{ends};
 ghost use Rattle.routes.specs.Distances.{Asked, Filled};
 ghost use Rattle.routes.specs.NextHops.{hop_of, HopRow};
 ghost use Rattle.routes.specs.Routes.{routes_network};
+ghost use Rattle.routes.specs.Surviving.{surviving_network};
 ghost use Rattle.routes.specs.Touched.{Touched};
 ghost use Rattle.theory.specs.Network.{without};
 ghost use Rattle.theory.specs.NextHop.{next_hop};
@@ -36,7 +37,7 @@ impl Routes {
         if dist.len() != self.nodes() as usize || !a.is_below(self.nodes()) {
             return None;
         }
-        Surviving::without(&self.costs, link).hop_of(a, dist)
+        self.surviving(link).hop_of(a, dist)
     }
 
     // A row for d when a link fails: its distances, and its next hops, which hops has as they are now. Only those of the
@@ -56,7 +57,7 @@ impl Routes {
     {
         let touched = self.touched(link, d);
         self.settle_without(link, d, touched, dist);
-        let left = Surviving::without(&self.costs, link);
+        let left = self.surviving(link);
         let mut rest = touched;
         while let Some(a) = rest.take_first() {
             hops[a.0 as usize] = left.hop_of(a, dist);
@@ -72,12 +73,19 @@ impl Routes {
         ensures { Filled (without (ends link) (routes_network self.now)) d.0 dist.new }
     {
         dist.copy_from_slice(self.distances_from(d));
-        let left = Surviving::without(&self.costs, link);
+        let left = self.surviving(link);
         let mut rest = touched;
         while let Some(a) = rest.take_first() {
             dist[a.0 as usize] = left.least_over(a, left.neighbours(a).minus(touched), dist);
         }
         left.settle_rest(touched, dist);
+    }
+
+    // The network that is left.
+    fn surviving(&self, link: LinkId) -> Surviving<'_>
+        ensures { surviving_network result ≡ without (ends link) (routes_network self.now) }
+    {
+        Surviving::without(&self.costs, link)
     }
 
     // The distances from d as they are.

@@ -11,10 +11,13 @@ use std::process::{Command, ExitCode, Stdio};
 use std::time::{Duration, Instant};
 
 const HELP: &str = "\
-usage: bench --lay PATH --reference PATH [--rounds N] [--box PATH --stream FRAMES] FILE..
+usage: bench --lay PATH --reference PATH [--former PATH] [--rounds N]
+             [--box PATH --stream FRAMES] FILE..
 
-Runs `LAY FILE` and `REFERENCE lay FILE` in turn, N times each (200), and prints
-the median and the least time of a run. With --box, `BOX NODE` and `REFERENCE box
+Runs `LAY FILE`, `REFERENCE lay --quick FILE` (which works out anew only what a failed
+link touches), `REFERENCE lay FILE` (which works out more) and, with --former, another
+lay in turn, N times each (200), and prints the median and the least time of a run,
+and what part of each other's time LAY takes. With --box, `BOX NODE` and `REFERENCE box
 NODE` too, on frames that are all packets but for the list of links in front, and
 prints how many packets a second each takes.
 ";
@@ -22,6 +25,7 @@ prints how many packets a second each takes.
 struct Options {
     lay: String,
     reference: String,
+    former: Option<String>,
     rounds: usize,
     files: Vec<String>,
     station: Option<String>,
@@ -29,13 +33,26 @@ struct Options {
 }
 
 impl Options {
-    /// The two programs, set to read the file.
-    fn commands(&self, file: &str) -> [Command; 2] {
-        let mut lay = Command::new(&self.lay);
-        lay.arg(file);
-        let mut reference = Command::new(&self.reference);
-        reference.arg("lay").arg(file);
-        [lay, reference]
+    /// The programs, set to read the file; `lay` comes first.
+    fn commands(&self, file: &str) -> Vec<Command> {
+        let command = |program: &str, words: &[&str]| {
+            let mut command = Command::new(program);
+            command.args(words).arg(file);
+            command
+        };
+        let mut commands = vec![
+            command(&self.lay, &[]),
+            command(&self.reference, &["lay", "--quick"]),
+            command(&self.reference, &["lay"]),
+        ];
+        commands.extend(self.former.as_deref().map(|former| command(former, &[])));
+        commands
+    }
+
+    fn names(&self) -> Vec<&'static str> {
+        let mut names = vec!["lay", "quick ref.", "reference"];
+        names.extend(self.former.as_ref().map(|_| "former lay"));
+        names
     }
 }
 
@@ -57,6 +74,7 @@ fn main() -> ExitCode {
 fn parse(arguments: Vec<String>) -> Result<Options, String> {
     let mut lay = None;
     let mut reference = None;
+    let mut former = None;
     let mut rounds = 200;
     let mut files = Vec::new();
     let (mut station, mut stream) = (None, None);
@@ -66,6 +84,7 @@ fn parse(arguments: Vec<String>) -> Result<Options, String> {
         match word.as_str() {
             "--lay" => lay = Some(value()?),
             "--reference" => reference = Some(value()?),
+            "--former" => former = Some(value()?),
             "--rounds" => rounds = positive(&value()?)?,
             "--box" => station = Some(value()?),
             "--stream" => stream = Some(value()?),
@@ -76,6 +95,7 @@ fn parse(arguments: Vec<String>) -> Result<Options, String> {
     Ok(Options {
         lay: lay.ok_or("--lay PATH is missing; see --help")?,
         reference: reference.ok_or("--reference PATH is missing; see --help")?,
+        former,
         rounds,
         files,
         station,
@@ -97,7 +117,7 @@ fn bench(options: &Options) -> Result<(), String> {
         check_same_output(options.commands(file), Input::None).map_err(|why| format!("{file}: {why}"))?;
         networks.push((file, network));
     }
-    print_heading(options.rounds);
+    print_heading(&options.names(), options.rounds);
     for (file, network) in &networks {
         let samples = measure(options.commands(file), Input::None, options.rounds)
             .map_err(|error| format!("{file}: {error}"))?;
@@ -121,13 +141,14 @@ fn bench_box(options: &Options, station: &str, stream: &str) -> Result<(), Strin
         proved.arg(&node);
         let mut reference = Command::new(&options.reference);
         reference.arg("box").arg(&node);
-        [proved, reference]
+        vec![proved, reference]
     };
     let input = Input::File(Path::new(stream));
     check_same_output(commands(), input).map_err(|why| format!("{stream}: {why}"))?;
     let rounds = options.rounds.div_ceil(10);
     let samples = measure(commands(), input, rounds).map_err(of_stream)?;
-    let [proved, reference] = samples.map(|runs| Summary::of(&runs, |run| run.processor).median);
+    let median = |runs: &Vec<Sample>| Summary::of(runs, |run| run.processor).median;
+    let (proved, reference) = (median(&samples[0]), median(&samples[1]));
     let millions = |milliseconds: f64| packets as f64 / milliseconds / 1e3;
     println!();
     println!("box on {packets} packets, {rounds} runs of each: processor time, median");
@@ -179,8 +200,8 @@ impl Network {
     }
 }
 
-/// The times of two programs say something only if they do the same.
-fn check_same_output(programs: [Command; 2], input: Input) -> Result<(), String> {
+/// The times of programs say something only if they do the same.
+fn check_same_output(programs: Vec<Command>, input: Input) -> Result<(), String> {
     let mut outputs = Vec::new();
     for mut command in programs {
         let name = command.get_program().to_string_lossy().into_owned();
@@ -192,8 +213,8 @@ fn check_same_output(programs: [Command; 2], input: Input) -> Result<(), String>
         }
         outputs.push(output.stdout);
     }
-    if outputs[0] != outputs[1] {
-        return Err("the two programs print different texts".into());
+    if outputs.iter().any(|output| *output != outputs[0]) {
+        return Err("the programs print different texts".into());
     }
     Ok(())
 }
@@ -204,13 +225,13 @@ struct Sample {
     wall: Duration,
 }
 
-/// Runs the two programs in turn, so that both meet the same load of the machine.
+/// Runs the programs in turn, so that all meet the same load of the machine.
 fn measure(
-    mut programs: [Command; 2],
+    mut programs: Vec<Command>,
     input: Input,
     rounds: usize,
-) -> io::Result<[Vec<Sample>; 2]> {
-    let mut samples = [Vec::new(), Vec::new()];
+) -> io::Result<Vec<Vec<Sample>>> {
+    let mut samples: Vec<Vec<Sample>> = programs.iter().map(|_| Vec::new()).collect();
     for _ in 0..rounds {
         for (program, samples) in programs.iter_mut().zip(&mut samples) {
             samples.push(sample(program, input)?);
@@ -243,30 +264,41 @@ impl Summary {
     }
 }
 
-fn print_heading(rounds: usize) {
+fn print_heading(names: &[&str], rounds: usize) {
     println!("Milliseconds of one run, start-up included; {rounds} runs of each program, in turn.");
-    println!("processor: user and system time of the process. ratio: lay / reference.");
+    println!("processor: user and system time of the process. Behind each other program: what part of its");
+    println!("time lay takes.");
     println!();
-    println!("{:36}{:>18}{:>18}{:>18}", "", "lay", "reference", "ratio");
-    let columns = ["median", "least"].map(|name| format!("{name:>9}")).concat().repeat(3);
-    println!("{:12}{:>6}{:>7}  {:9}{columns}", "network", "nodes", "links", "time");
+    let programs = names.iter().map(|name| format!("{name:>18}"));
+    let titles: Vec<String> = programs.enumerate().map(|(i, title)| title + after(i, "")).collect();
+    println!("{:36}{}", "", titles.concat());
+    let columns = |i| format!("{:>9}{:>9}{}", "median", "least", after(i, "  ratio"));
+    let columns: Vec<String> = (0..names.len()).map(columns).collect();
+    println!("{:12}{:>6}{:>7}  {:9}{}", "network", "nodes", "links", "time", columns.concat());
+}
+
+/// The column of ratios, which the first program hasn't got.
+fn after(program: usize, text: &'static str) -> &'static str {
+    match (program, text) {
+        (0, _) => "",
+        (_, "") => "       ",
+        (_, text) => text,
+    }
 }
 
 fn print_row(
     Network { name, nodes, links }: &Network,
     kind: &str,
-    [lay, reference]: &[Vec<Sample>; 2],
+    samples: &[Vec<Sample>],
     time: fn(&Sample) -> Duration,
 ) {
-    let (lay, reference) = (Summary::of(lay, time), Summary::of(reference, time));
-    let columns = [
-        lay.median,
-        lay.least,
-        reference.median,
-        reference.least,
-        lay.median / reference.median,
-        lay.least / reference.least,
-    ];
-    let columns = columns.map(|value| format!("{value:9.2}")).concat();
+    let summaries: Vec<Summary> = samples.iter().map(|runs| Summary::of(runs, time)).collect();
+    let mut columns = String::new();
+    for (i, summary) in summaries.iter().enumerate() {
+        columns += &format!("{:9.2}{:9.2}", summary.median, summary.least);
+        if i > 0 {
+            columns += &format!("{:7.2}", summaries[0].median / summary.median);
+        }
+    }
     println!("{name:12}{nodes:6}{links:7}  {kind:9}{columns}");
 }

@@ -68,6 +68,7 @@ fn nearest(nodes: NodeSet, dist: &[u32]) -> Option<NodeId>
     requires { AllBelow (length dist.now) nodes }
     ensures { IsNearest nodes dist.now result }
 {
+    // a loop: a set gives its nodes one by one, and of the least by a key a proof would know too little
     let mut best = None;
     let mut least = NEVER;
     let mut rest = nodes;

@@ -21,7 +21,7 @@ loop-a-preserved c =
     let t = c.in-Some.ensures in
     let a = c.in-Some.a.0 in
     let y = without (ends c.args.link) (routes_network c.args.self.now) in
-    let h = subst (λ (z : Network). HopBy z c.settle_without.new.dist a c.hop_of.result) c.without-left.ensures c.hop_of.ensures in
+    let h = subst (λ (z : Network). HopBy z c.settle_without.new.dist a c.hop_of.result) c.surviving-left.ensures c.hop_of.ensures in
     renewed_more (routes_network c.args.self.now) (ends c.args.link) c.args.d.0 c.touched-touched.result c.loop-a.rest c.take_first.new.self c.args.hops.now c.loop-a.hops a c.hop_of.result t.0.in_set t.1 (omega (arith, touched_below (routes_network c.args.self.now) (ends c.args.link) c.args.d.0 c.touched-touched.result c.touched-touched.ensures a (c.loop-a.invariant.some a t.0.in_set), c.requires.size.1)) (h c.args.d.0 c.settle_without.ensures) c.loop-a.invariant
 
 pub returns-clause-next : goal.returns-clause-next

@@ -26,8 +26,8 @@ pub loop-a-preserved : goal.loop-a-preserved
 loop-a-preserved c =
     let r = c.args.self.now in
     let t = c.in-Some.ensures in
-    let o = subst (λ (y : Network). LeastOver y c.in-Some.a.0 c.minus.result c.loop-a.dist c.least_over.result) c.without-left.ensures c.least_over.ensures in
-    let n = subst (λ (y : Network). (e : ℕ) → has c.neighbours.result e ≡ ltb 0 (y.cost c.in-Some.a.0 e)) c.without-left.ensures c.neighbours.ensures in
+    let o = subst (λ (y : Network). LeastOver y c.in-Some.a.0 c.minus.result c.loop-a.dist c.least_over.result) c.surviving-left.ensures c.least_over.ensures in
+    let n = subst (λ (y : Network). (e : ℕ) → has c.neighbours.result e ≡ ltb 0 (y.cost c.in-Some.a.0 e)) c.surviving-left.ensures c.neighbours.ensures in
     begun_more (routes_network r) (matrix_lawful r.costs) (matrix_limited r.costs) (ends c.args.link) c.args.d.0 c.requires.within c.args.touched c.requires.touched (λ a. get_or r.distances (c.args.d.0 * 64 + a) 0) (λ a p. r.near c.args.d.0 a (c.requires.within, p))
     c.loop-a.rest c.take_first.new.self c.minus.result c.loop-a.dist c.in-Some.a.0 c.least_over.result t.0.in_set t.1 (λ e. c.minus.ensures e ∙ ap (λ b. b && not (has c.args.touched e)) (n e)) c.loop-a.invariant o
 
@@ -36,4 +36,4 @@ returns c =
     let r = c.args.self.now in
     let s = begun_all (routes_network r) (matrix_lawful r.costs) (matrix_limited r.costs) (ends c.args.link) c.args.d.0 c.requires.within c.args.touched c.requires.touched (λ a. get_or r.distances (c.args.d.0 * 64 + a) 0) (λ a p. r.near c.args.d.0 a (c.requires.within, p))
     c.loop-a.rest c.loop-a.dist c.in_default.ensures.1 c.loop-a.invariant in
-    subst (λ (y : Network). Standing y c.args.d.0 c.args.touched c.loop-a.dist → Filled y c.args.d.0 c.settle_rest.new.dist) c.without-left.ensures (c.settle_rest.ensures c.args.d.0) s
+    subst (λ (y : Network). Standing y c.args.d.0 c.args.touched c.loop-a.dist → Filled y c.args.d.0 c.settle_rest.new.dist) c.surviving-left.ensures (c.settle_rest.ensures c.args.d.0) s
