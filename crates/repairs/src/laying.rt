@@ -153,6 +153,8 @@ impl<'a> Left<'a> {
     fn next_hop(&self, w: NodeId) -> Option<NodeId>
         ensures { hop_of result ≡ next_hop (left_network self.now.link) self.now.d.0 w.0 }
     {
-        self.link.routes.next_hop_without(self.link.id(), w, self.dist)
+        self.link
+            .routes
+            .next_hop_without(self.link.id(), w, self.dist)
     }
 }
