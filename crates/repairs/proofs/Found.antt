@@ -1,6 +1,6 @@
 -- What is found along the post-convergence path, and what it says of the entry. Assumes nothing.
-use Rattle.std.proofs.Common.{◌≡◌, ℕ, ◌+◌, ◌*◌, ◌<◌, ◌≤◌, true, false, cond, List, length, get_or, set, Some, None, Option, sym, ap, ◌∙◌, inl, inr, arith}
-use Rattle.std.proofs.lemmas.Bool.{cases_eq, cond-true, cond-false}
+use Rattle.std.proofs.Common.{◌≡◌, ℕ, ◌+◌, ◌*◌, ◌<◌, ◌≤◌, true, cond, List, length, get_or, set, Some, None, Option, sym, ap, ◌∙◌, inl, inr, arith}
+use Rattle.std.proofs.lemmas.Bool.{cases_eq, cond-true}
 use Rattle.std.proofs.lemmas.List.{get_or-set_same, get_or-set_other}
 use borrow.Rule.Slice.PartMut.{put_mid}
 use Rattle.routes.proofs.Rows.{put_below, put_in, put_above}
@@ -20,23 +20,9 @@ pub along_stop : (z y : Network) (s f d w : ℕ) → None ≡ next_hop y d w →
 unfolding last_reached
 along_stop z y s f d w e = ap (λ ws. last_reached z s f w ws) (sym (path_stop y d w (sym e)))
 
-along_step : (z y : Network) → Lawful y → (s f d w q : ℕ) → Some q ≡ next_hop y d w → last_reached z s f w (path y d w) ≡ later (last_reached z s f q (path y d q)) (cond (sends z s f w) None (via w q))
+pub along_step : (z y : Network) → Lawful y → (s f d w q : ℕ) → Some q ≡ next_hop y d w → last_reached z s f w (path y d w) ≡ later (last_reached z s f q (path y d q)) (cond (sends z s f w) None (via w q))
 unfolding last_reached
 along_step z y g s f d w q e = ap (λ ws. last_reached z s f w ws) (path_to y g d w q (sym e))
-
--- a later link serves
-pub along_later : (z y : Network) → Lawful y → (s f d w q : ℕ) (x : Repair) → Some q ≡ next_hop y d w → Some x ≡ last_reached z s f q (path y d q) → Some x ≡ last_reached z s f w (path y d w)
-along_later z y g s f d w q x e h = sym (along_step z y g s f d w q e ∙ ap (λ o. later o (cond (sends z s f w) None (via w q))) (sym h))
-
--- none does, and s reaches w only over the link
-pub along_none : (z y : Network) → Lawful y → (s f d w q : ℕ) → Some q ≡ next_hop y d w → None ≡ last_reached z s f q (path y d q) → sends z s f w ≡ true → None ≡ last_reached z s f w (path y d w)
-along_none z y g s f d w q e h t =
-    sym (along_step z y g s f d w q e ∙ (ap (λ o. later o (cond (sends z s f w) None (via w q))) (sym h) ∙ cond-true (sends z s f w) None (via w q) t))
-
--- none does, and s reaches w by another neighbour
-pub along_here : (z y : Network) → Lawful y → (s f d w q : ℕ) → Some q ≡ next_hop y d w → None ≡ last_reached z s f q (path y d q) → sends z s f w ≡ false → via w q ≡ last_reached z s f w (path y d w)
-along_here z y g s f d w q e h t =
-    sym (along_step z y g s f d w q e ∙ (ap (λ o. later o (cond (sends z s f w) None (via w q))) (sym h) ∙ cond-false (sends z s f w) None (via w q) t))
 
 -- what was found is what is laid up
 pub laid_found : (z y : Network) → Lawful z → (s f d : ℕ) → y ≡ without (record { a = s; b = f }) z → sends z s f d ≡ true → (o : Option Repair) → o ≡ last_reached z s f s (path y d s) → laid_by o ≡ laid z s f d

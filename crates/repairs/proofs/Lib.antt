@@ -1,3 +1,4 @@
 pub mod Right
 pub mod Found
 pub mod LeftLawful
+pub mod Along

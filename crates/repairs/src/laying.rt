@@ -1,10 +1,11 @@
-ghost use Rattle.std.specs.Prelude.{◌≡◌, ◌<◌, length, MatchResult};
+ghost use Rattle.std.specs.Prelude.{◌≡◌, ◌<◌, length, true, false, MatchResult};
 ghost use Rattle.links.specs.Link.{ends};
 ghost use Rattle.theory.specs.NextHop.{next_hop, path};
 ghost use Rattle.theory.specs.Repair.{sends, last_reached, laid};
 ghost use Rattle.routes.specs.Distances.{Filled};
 ghost use Rattle.routes.specs.NextHops.{hop_of};
 ghost use Rattle.routes.specs.Routes.{routes_network};
+ghost use Rattle.repairs.specs.Ahead.{Ahead};
 ghost use Rattle.repairs.specs.Entries.{repair_of, meaning};
 ghost use Rattle.repairs.specs.Link.{left_network, link_network};
 ghost use Rattle.repairs.specs.Table.{RowLaid, LinkLaid, Refused, RowAsked, TableAsked};
@@ -45,12 +46,13 @@ struct Protected<'a> {
     f: NodeId,
 }
 
-// The distances to d when it fails.
+// The distances to d when it fails, and s sends to d over it.
 #[derive(Drop)]
 struct Left<'a> {
     link: Protected<'a>,
     d: NodeId,
     dist: &'a [u32],
+    ghost sent: { sends (link_network link) link.s.0 link.f.0 d.0 ≡ true },
     ghost filled: { Filled (left_network link) d.0 dist.now },
 }
 
@@ -109,7 +111,7 @@ impl<'a> Protected<'a> {
 
     // The repair for d, to which s sends over the link: nothing is worked out for other destinations.
     fn repair(&self, d: NodeId) -> Option<Repair>
-        requires { d.0 < (link_network self.now).n }
+        requires { (d.0 < (link_network self.now).n) × (sends (link_network self.now) self.now.s.0 self.now.f.0 d.0 ≡ true) }
         ensures { repair_of result ≡ last_reached (link_network self.now) self.now.s.0 self.now.f.0 self.now.s.0 (path (left_network self.now) d.0 self.now.s.0) }
     {
         // no heap here: an array, of which the first n places are lent
@@ -135,18 +137,17 @@ impl<'a> Protected<'a> {
 }
 
 impl<'a> Left<'a> {
-    // Along the path that is left from w to d: the last link whose first node s reaches by another neighbour.
+    // Along the path that is left from w to d: the last link whose first node s reaches by another neighbour. Such nodes
+    // come first, so it is the link to the first one that s reaches over the failed link.
     fn along(&self, w: NodeId) -> Option<Repair>
+        requires { Ahead (left_network self.now.link) self.now.link.s.0 self.now.d.0 w.0 × (sends (link_network self.now.link) self.now.link.s.0 self.now.link.f.0 w.0 ≡ false) }
         ensures { repair_of result ≡ last_reached (link_network self.now.link) self.now.link.s.0 self.now.link.f.0 w.0 (path (left_network self.now.link) self.now.d.0 w.0) }
     {
         let q = self.next_hop(w)?;
-        if let Some(later) = self.along(q) {
-            return Some(later);
+        if self.link.sends(q) {
+            return Some(Repair { p: w, q });
         }
-        if self.link.sends(w) {
-            return None;
-        }
-        Some(Repair { p: w, q })
+        self.along(q)
     }
 
     // The next hop of a node when the link fails.

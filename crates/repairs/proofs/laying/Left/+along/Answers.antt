@@ -1,8 +1,10 @@
-use Rattle.std.proofs.Common.{sym, arith}
+use Rattle.std.proofs.Common.{sym, ◌∙◌, arith}
 use Rattle.theory.proofs.HopPaths.{hops_fall}
+use Rattle.routes.proofs.Costs.{matrix_lawful}
 use Rattle.repairs.specs.Link.{left_network, link_network}
 use Rattle.repairs.proofs.LeftLawful.{left_lawful}
-use Rattle.repairs.proofs.Found.{along_stop, along_later, along_none, along_here}
+use Rattle.repairs.proofs.Found.{along_stop}
+use Rattle.repairs.proofs.Along.{on_next, along_here, along_further}
 use Rattle.repairs.proofs.laying.Left.+along.Goals as goal
 
 pub returns-in_err-q : goal.returns-in_err-q
@@ -10,22 +12,23 @@ returns-in_err-q t c =
     let l = c.args.self.now in
     rw c.from_residual.ensures (along_stop (link_network l.link) (left_network l.link) l.link.s.0 l.link.f.0 l.d.0 c.args.w.0 c.in_err-q.ensures)
 
-pub along-requires : goal.along-requires
-along-requires t c =
-    let l = c.args.self.now in
-    omega (arith, hops_fall (left_network l.link) (left_lawful l.link) l.d.0 c.args.w.0 c.in_ok-q.q.0 (sym c.in_ok-q.ensures))
-
-pub returns-in-Some : goal.returns-in-Some
-returns-in-Some t c =
-    let l = c.args.self.now in
-    along_later (link_network l.link) (left_network l.link) (left_lawful l.link) l.link.s.0 l.link.f.0 l.d.0 c.args.w.0 c.in_ok-q.q.0 _ c.in_ok-q.ensures c.in-Some.ensures
-
 pub returns-then-sends : goal.returns-then-sends
 returns-then-sends t c =
     let l = c.args.self.now in
-    along_none (link_network l.link) (left_network l.link) (left_lawful l.link) l.link.s.0 l.link.f.0 l.d.0 c.args.w.0 c.in_ok-q.q.0 c.in_ok-q.ensures c.in_default.ensures (sym c.if-sends.ensures)
+    let q = c.in_ok-q.q.0 in
+    let hop = sym c.in_ok-q.ensures in
+    sym (along_here (link_network l.link) (matrix_lawful l.link.routes.now.costs) l.link.s.0 l.link.f.0 l.d.0 c.args.w.0 q (c.requires.0 q hop) hop c.requires.1 (sym c.if-sends.ensures))
+
+pub along-requires : goal.along-requires
+along-requires t c =
+    let l = c.args.self.now in
+    let q = c.in_ok-q.q.0 in
+    let hop = sym c.in_ok-q.ensures in
+    (omega (arith, hops_fall (left_network l.link) (left_lawful l.link) l.d.0 c.args.w.0 q hop), (on_next (link_network l.link) (matrix_lawful l.link.routes.now.costs) l.link.s.0 l.link.f.0 l.d.0 q (c.requires.0 q hop), sym c.if-sends.ensures))
 
 pub returns : goal.returns
 returns t c =
     let l = c.args.self.now in
-    along_here (link_network l.link) (left_network l.link) (left_lawful l.link) l.link.s.0 l.link.f.0 l.d.0 c.args.w.0 c.in_ok-q.q.0 c.in_ok-q.ensures c.in_default.ensures (sym c.if-sends.ensures)
+    let q = c.in_ok-q.q.0 in
+    let hop = sym c.in_ok-q.ensures in
+    c.along.ensures ∙ sym (along_further (link_network l.link) (matrix_lawful l.link.routes.now.costs) l.link.s.0 l.link.f.0 l.d.0 c.args.w.0 q (c.requires.0 q hop) l.sent hop (sym c.if-sends.ensures))
