@@ -2,9 +2,10 @@
 use denote.Param.Members.{Mut}
 use Rattle.std.specs.Array.{IsFromFnResult}
 use Rattle.std.specs.Fn.{Called}
-use Rattle.std.proofs.Common.{◌≡◌, ℕ, ◌+◌, ◌≤◌, Bool, true, false, not, ◌&&◌, ◌||◌, eqb, ltb, ◌⊎◌, List, Some, sym, ap, ◌∙◌, inl, inr, arith}
-use Rattle.std.proofs.lemmas.List.{get_or_past}
-use Rattle.std.proofs.lemmas.Bool.{eq-eqb, ne_eqb, lt-ltb, le-ltb, cases_eq, cases_lt, and_left, and_right}
+use Rattle.std.proofs.Common.{◌≡◌, ℕ, ◌+◌, ◌<◌, ◌≤◌, Bool, true, false, not, ◌&&◌, ◌||◌, eqb, ltb, ◌⊎◌, List, length, set, Some, sym, ap, ◌∙◌, inl, inr, arith}
+use Rattle.std.proofs.lemmas.List.{get_or_past, get_or-set_same, get_or-set_other}
+use Rattle.std.proofs.Math.Bool.{and-true}
+use Rattle.std.proofs.lemmas.Bool.{eq-eqb, ne_eqb, lt-ltb, le-ltb, cases_eq, cases_lt, and_left, and_right, and_from}
 use Rattle.theory.specs.Network.{LinkId, Lawful}
 use Rattle.theory.specs.NextHop.{same, uses}
 use Rattle.theory.specs.Repair.{sends}
@@ -12,9 +13,10 @@ use Rattle.routes.proofs.Steps.{hop_outside}
 use Rattle.protocol.specs.Router.{Router}
 use Rattle.protocol.specs.Hearing.{came_early, learn, waits_for}
 use Rattle.links.proofs.Arrays.{from_fn_each}
-use Rattle.switchover.specs.Bits.{has, waited, IsSetOf}
-use Rattle.switchover.specs.declared.node_set.NodeSet.{NodeSet}
-use Rattle.switchover.proofs.Bitwise.{bit_zero}
+use Rattle.links.proofs.NodeBits.{empty_has}
+use Rattle.links.specs.NodeSets.{has}
+use Rattle.links.specs.declared.node_set.NodeSet.{NodeSet}
+use Rattle.switchover.specs.Bits.{waited, IsSetOf}
 
 -- f is p, but only for the first k
 abbrev Upto : ℕ → (ℕ → Bool) → (ℕ → Bool) → Type 0
@@ -30,10 +32,10 @@ last_in : (k : ℕ) (p : ℕ → Bool) (v : ℕ) → v ≡ k → p k ≡ (ltb v 
 last_in k p v e = ap p (sym e) ∙ ap (λ x. x && p v) (sym (lt-ltb v (k + 1) (omega arith)))
 
 -- one more
-pub upto_with : (k : ℕ) (p f g : ℕ → Bool) → Upto k p f → true ≡ p k → ((v : ℕ) → g v ≡ (eqb v k || f v)) → Upto (k + 1) p g
-upto_with k p f g h i j v = elim (cases_eq v k) [
-  | inl e ↦ j v ∙ (ap (λ x. x || f v) (eq-eqb v k e) ∙ (i ∙ last_in k p v e))
-  | inr e ↦ j v ∙ (ap (λ x. x || f v) (ne_eqb v k e) ∙ (h v ∙ ap (λ x. x && p v) (ltb_more v k e)))
+pub upto_with : (k : ℕ) (p f g : ℕ → Bool) → k < 64 → Upto k p f → true ≡ p k → ((v : ℕ) → g v ≡ ((eqb v k && ltb v 64) || f v)) → Upto (k + 1) p g
+upto_with k p f g few h i j v = elim (cases_eq v k) [
+  | inl e ↦ j v ∙ (ap (λ x. x || f v) (and_from (eqb v k) (ltb v 64) (eq-eqb v k e) (lt-ltb v 64 (omega arith))) ∙ (i ∙ last_in k p v e))
+  | inr e ↦ j v ∙ (ap (λ x. (x && ltb v 64) || f v) (ne_eqb v k e) ∙ (h v ∙ ap (λ x. x && p v) (ltb_more v k e)))
 ]
 
 -- or not
@@ -54,7 +56,16 @@ pub from_fn_waited : {F : Type 0} (g : Mut F (ℕ × Unit {0}) NodeSet) (p : ℕ
     IsFromFnResult g f l 64 → n ≤ 64 → ((d u : ℕ) → n ≤ d → p d u ≡ false) → (d u : ℕ) → waited l d u ≡ p d u
 from_fn_waited g p n f l h r few none d u = elim (cases_lt d 64) [
   | inl i ↦ (from_fn_each g (λ d y. IsSetOf (p d) y) f l 0 64 h r.each d _ (omega arith) (omega arith)).each u
-  | inr i ↦ ap (λ s. has s u) (get_or_past l d _ (omega (arith, r.long))) ∙ (bit_zero u ∙ sym (none d u (omega arith)))
+  | inr i ↦ ap (λ s. has s u) (get_or_past l d _ (omega (arith, r.long))) ∙ (empty_has u ∙ sym (none d u (omega arith)))
+]
+
+-- the set of d has u no more
+pub one_less : (l : List NodeSet) (d u : ℕ) (s : NodeSet) → d < length l → ((v : ℕ) → has s v ≡ (waited l d v && not (eqb v u))) → (e v : ℕ) → waited (set l d s) e v ≡ (waited l e v && not (eqb e d && eqb v u))
+one_less l d u s b h e v = elim (cases_eq e d) [
+  | inl i ↦
+      ap (λ x. waited (set l d s) x v) i ∙ (ap (λ x. has x v) (get_or-set_same l d s _ b) ∙ h v) ∙
+      sym (ap (λ x. waited l x v && not (eqb e d && eqb v u)) i ∙ ap (λ b. waited l d v && not (b && eqb v u)) (eq-eqb e d i))
+  | inr i ↦ ap (λ x. has x v) (get_or-set_other l d e s _ i) ∙ sym (ap (λ b. waited l e v && not (b && eqb v u)) (ne_eqb e d i) ∙ and-true (waited l e v))
 ]
 
 -- nobody outside the network is waited for

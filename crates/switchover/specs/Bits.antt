@@ -1,14 +1,7 @@
--- Sets of nodes as the bits of a number. Assumes nothing.
-use Rattle.std.specs.Prelude.{◌≡◌, ℕ, ◌/◌, ◌%◌, ◌^◌, ◌≤◌, Bool, false, ◌⊎◌, List, ◌==◌, slice_index_or}
-use Rattle.switchover.specs.declared.node_set.NodeSet.{NodeSet}
-
--- bit u of a number
-unfoldable pub bit : ℕ → ℕ → Bool
-bit s u = s / 2 ^ u % 2 == 1
-
--- is u in the set
-abbrev pub has : NodeSet → ℕ → Bool
-has s = bit s.0
+-- Sets of nodes, by destination. Assumes nothing.
+use Rattle.std.specs.Prelude.{◌≡◌, ℕ, ◌≤◌, Bool, false, ◌⊎◌, List, slice_index_or}
+use Rattle.links.specs.NodeSets.{has}
+use Rattle.links.specs.declared.node_set.NodeSet.{NodeSet}
 
 -- the nodes that pass a test
 pub record IsSetOf (p : ℕ → Bool) (s : NodeSet) : Type 0 where

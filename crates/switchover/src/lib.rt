@@ -1,5 +1,4 @@
 // One router: it forwards packets, hears of failures, and switches to the new next hops in order.
 #![tactic(auto)]
 
-mod node_set;
 pub mod router;

@@ -1,9 +1,9 @@
 ghost use Rattle.forwarding.specs.Model.{model};
 ghost use Rattle.switchover.specs.Bits.{NobodyBeyond};
 
-use crate::node_set::NodeSet;
 use forwarding::forwarder::Forwarder;
 use links::link::LinkId;
+use links::node_set::NodeSet;
 use messages::message::Switched;
 
 pub mod build;

@@ -1,12 +1,13 @@
 ghost use Rattle.links.specs.Topology.{network};
 ghost use Rattle.forwarding.specs.Started.{Started};
+ghost use Rattle.switchover.specs.Bits.{Nobody};
 ghost use Rattle.switchover.specs.Model.{model};
 
 use super::Router;
-use crate::node_set::nobody;
 use forwarding::forwarder::Forwarder;
 use links::fault::Fault;
 use links::node::NodeId;
+use links::node_set::NodeSet;
 use links::topology::Topology;
 use std::alloc::Global;
 
@@ -23,4 +24,11 @@ impl Router {
             removed: Vec::new(heap),
         })
     }
+}
+
+// By destination, nobody.
+pub(super) fn nobody() -> [NodeSet; 64]
+    ensures { Nobody result }
+{
+    [NodeSet::empty(); 64]
 }

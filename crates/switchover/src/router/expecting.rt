@@ -6,9 +6,9 @@ ghost use Rattle.switchover.specs.Bits.{IsSetOf, waited};
 ghost use Rattle.switchover.specs.Model.{model};
 
 use super::Router;
-use crate::node_set::NodeSet;
 use links::link::LinkId;
 use links::node::NodeId;
+use links::node_set::NodeSet;
 use messages::message::Switched;
 use std::array;
 

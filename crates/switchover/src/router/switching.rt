@@ -9,7 +9,7 @@ ghost use Rattle.switchover.specs.Replies.{Answered};
 ghost use Rattle.switchover.specs.Switching.{GoneOver, TakenOut, told};
 
 use super::Router;
-use crate::node_set::nobody;
+use super::build::nobody;
 use links::fault::Fault;
 use links::link::LinkId;
 use links::node::NodeId;

@@ -1,7 +1,7 @@
 use Rattle.std.proofs.Common.{inr, arith}
 use Rattle.links.specs.Link.{ends}
 use Rattle.protocol.specs.Hearing.{learn}
-use Rattle.switchover.specs.Bits.{has}
+use Rattle.links.specs.NodeSets.{has}
 use Rattle.switchover.specs.Model.{model}
 use Rattle.switchover.proofs.Expected.{upto_with, upto_without, upto_all, waits_outside}
 use Rattle.switchover.proofs.Models.{links_lawful}
@@ -12,7 +12,7 @@ pub loop-u-preserved : goal.loop-u-preserved
 loop-u-preserved c =
     let p = (learn (ends c.args.link) (model c.args.self.now)).pending c.args.destination.0 in
     elim c.if-expects.branch [
-      | then-expects w ↦ rw w.set-is (upto_with c.loop-u.u p (has c.loop-u.set) (has w.insert.new.self) c.loop-u.invariant w.if-expects.ensures w.insert.ensures)
+      | then-expects w ↦ rw w.set-is (upto_with c.loop-u.u p (has c.loop-u.set) (has w.insert.new.self) (omega arith) c.loop-u.invariant w.if-expects.ensures w.insert.ensures)
       | else-expects w ↦ rw w.set-is (upto_without c.loop-u.u p (has c.loop-u.set) c.loop-u.invariant w.if-expects.ensures)
     ]
 

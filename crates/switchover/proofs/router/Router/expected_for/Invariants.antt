@@ -1,7 +1,7 @@
 use Rattle.std.proofs.Common.{◌≡◌, ℕ, ◌&&◌, ltb}
 use Rattle.links.specs.Link.{ends}
 use Rattle.protocol.specs.Hearing.{learn}
-use Rattle.switchover.specs.Bits.{has}
+use Rattle.links.specs.NodeSets.{has}
 use Rattle.switchover.specs.Model.{model}
 use Rattle.switchover.proofs.router.Router.expected_for.Given as goal
 
