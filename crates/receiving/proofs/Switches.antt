@@ -1,11 +1,13 @@
 -- A router that has been asked to switch for all destinations may switch for none. Assumes nothing.
-use Rattle.std.proofs.Common.{◌≡◌, ℕ, ◌+◌, ◌<◌, Bool, true, false, cond, not, ◌&&◌, ◌||◌, eqb, ltb, ◌⊎◌, List, ◌∷◌, sym, refl, ap, ◌∙◌, subst, inl, inr, add-one, arith, rules}
+use Rattle.std.proofs.Common.{◌≡◌, ℕ, ◌+◌, ◌<◌, Bool, true, false, cond, not, ◌&&◌, ◌||◌, eqb, ltb, ◌⊎◌, List, ◌∷◌, sym, refl, ap, ap₂, ◌∙◌, subst, inl, inr, add-one, arith, rules}
 use Rattle.std.proofs.lemmas.Bool.{cases_eq, eq-eqb}
 use Rattle.theory.specs.Network.{LinkId, without}
 use Rattle.protocol.specs.Router as protocol
 use Rattle.protocol.specs.Switching.{none_below, all_below, mark, may, may_in, after_switch, says, switch_in, switch}
+use Rattle.links.specs.declared.fault.Fault.{Fault}
+use Rattle.links.specs.declared.fault.Fault.TheVariants.{Memory}
 use Rattle.messages.specs.declared.message.Sent.{Sent}
-use Rattle.switchover.specs.Replies.{Accepted}
+use Rattle.switchover.specs.Replies.{Accepted, RefusedBy}
 use Rattle.receiving.specs.Settling.{Standing, go_on, switched, standing}
 
 -- it may switch for none below k
@@ -72,3 +74,13 @@ one_more d first now next before said after a h =
       done = subst (DoneBelow (d + 1)) (sym r) (done_more d now a.done);
       nodes = ap (λ (s : protocol.Router). s.links.n) r ∙ (nodes_kept d now ∙ a.nodes);
     }
+
+never_refused : (s : protocol.Router) (d : ℕ) (f : Fault) → RefusedBy (switch s d) f → ⊥
+never_refused s d f h = search rules
+
+-- where memory is wanting it has been asked for those below d
+pub stopped : (d : ℕ) (first now next : protocol.Router) (before said after : List Sent) (f : Fault) → Asked d first now before said →
+    (next ≡ now) × (after ≡ said) × (RefusedBy (switch now d) f ⊎ (f ≡ Memory)) →
+    (f ≡ Memory) × ((k : ℕ) × (standing next after ≡ switched k (standing first before)))
+stopped d first now next before said after f a h =
+    (elim h.2 [ inl x ↦ absurd (never_refused now d f x) | inr m ↦ m ], (d, ap₂ standing h.0 h.1 ∙ a.is))
