@@ -12,7 +12,7 @@ use Rattle.switchover.specs.Bits.{Nobody}
 abbrev set_of : ℕ → NodeSet
 set_of n = record { 0 = n }
 
--- k times a set that nobody is in
+-- nobody is in any of k sets that are one that nobody is in
 pub nobody_in : (k n : ℕ) → n < 18446744073709551616 → ((u : ℕ) → has (set_of n) u ≡ false) → Nobody (replicate k (set_of n))
 nobody_in k n f none d u = rw (none_zero n f none) (ap (λ s. has s u) (all_alike (set_of 0) k d) ∙ empty_has u)
 
