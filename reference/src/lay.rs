@@ -29,9 +29,9 @@ pub fn lay(list: &[u8], form: Form) -> Result<Vec<u8>, Fault> {
         Form::Plan => plan(&topology, &routes, |link| {
             repairs::protections(link, &topology, &network, &routes)
         }),
-        Form::QuickPlan => plan(&topology, &routes, |link| {
-            quick::protections(link, &topology, &network, &routes)
-        }),
+        Form::QuickPlan => {
+            plan(&topology, &routes, |link| quick::protections(link, &topology, &network, &routes))
+        }
         Form::Summary => Summary::of(&topology, &network, &routes).to_string().into_bytes(),
     })
 }

@@ -14,18 +14,15 @@ pub fn protections(
     network: &Adjacency,
     routes: &Routes,
 ) -> Vec<Protection> {
-    let protect = |to| match sender_over(link, to, routes) {
-        None => Protection::Unused,
-        Some(sender) => match repair(link, sender, to, topology, network, routes) {
-            None => Protection::Apart { sender },
-            Some(repair) => Protection::Repaired { sender, repair },
-        },
+    let protect = |to| {
+        let repair = |sender| repair(link, sender, to, topology, network, routes);
+        Protection::of(sender_over(link, to, routes), repair)
     };
     topology.nodes().map(protect).collect()
 }
 
-/// The last hop of the path that is left whose first node the sender reaches by another
-/// neighbour.
+/// The hop of the path that is left to the first node that the sender reaches over the
+/// link: those that it reaches by another neighbour come first.
 fn repair(
     failed: Link,
     sender: NodeId,
@@ -39,15 +36,14 @@ fn repair(
     let touched = touched(failed, destination, topology, routes);
     let distances = routes.distances(destination).without(failed, touched, network);
     let cost = distances.distance(sender)?;
-    let mut found = None;
     let mut p = sender;
     while let Some(q) = distances.next_hop_without(failed, p, network) {
-        if routes.next_hop(sender, p) != Some(other) {
-            found = Some(Repair { p, q, cost });
+        if routes.next_hop(sender, q) == Some(other) {
+            return Some(Repair { p, q, cost });
         }
         p = q;
     }
-    found
+    None
 }
 
 /// The nodes whose paths to the destination use the link.

@@ -28,6 +28,19 @@ pub enum Protection {
     Repaired { sender: NodeId, repair: Repair },
 }
 
+impl Protection {
+    /// By the end that sends over the link, if one does, and the repair that it has.
+    pub fn of(sender: Option<NodeId>, repair: impl FnOnce(NodeId) -> Option<Repair>) -> Protection {
+        match sender {
+            None => Protection::Unused,
+            Some(sender) => match repair(sender) {
+                None => Protection::Apart { sender },
+                Some(repair) => Protection::Repaired { sender, repair },
+            },
+        }
+    }
+}
+
 /// The protection of one link for each destination in turn.
 pub fn protections(
     link: Link,
@@ -40,12 +53,8 @@ pub fn protections(
         return vec![Protection::Unused; senders.len()];
     }
     let rest = network.without(link);
-    let protect = |(destination, sender)| match sender {
-        None => Protection::Unused,
-        Some(sender) => match repair(link, sender, destination, &rest, routes) {
-            None => Protection::Apart { sender },
-            Some(repair) => Protection::Repaired { sender, repair },
-        },
+    let protect = |(destination, sender)| {
+        Protection::of(sender, |sender| repair(link, sender, destination, &rest, routes))
     };
     topology.nodes().zip(senders).map(protect).collect()
 }

@@ -334,11 +334,8 @@ fn tear(program: &Path, topology: &Topology, script: &str) -> io::Result<Vec<Str
     let name = format!("boxes-{}.links", std::process::id());
     let links = std::env::temp_dir().join(name);
     std::fs::write(&links, wire::emit(topology))?;
-    let mut child = Command::new(program)
-        .arg(&links)
-        .stdin(Stdio::piped())
-        .stdout(Stdio::piped())
-        .spawn()?;
+    let mut child =
+        Command::new(program).arg(&links).stdin(Stdio::piped()).stdout(Stdio::piped()).spawn()?;
     child.stdin.take().expect("it is piped").write_all(script.as_bytes())?;
     let output = child.wait_with_output()?;
     std::fs::remove_file(&links)?;

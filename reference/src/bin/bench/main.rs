@@ -114,7 +114,8 @@ fn bench(options: &Options) -> Result<(), String> {
     let mut networks = Vec::new();
     for file in &options.files {
         let network = Network::read(file).map_err(|why| format!("{file}: {why}"))?;
-        check_same_output(options.commands(file), Input::None).map_err(|why| format!("{file}: {why}"))?;
+        check_same_output(options.commands(file), Input::None)
+            .map_err(|why| format!("{file}: {why}"))?;
         networks.push((file, network));
     }
     print_heading(&options.names(), options.rounds);
