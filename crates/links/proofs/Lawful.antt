@@ -1,29 +1,29 @@
--- A rising list of links makes a lawful network. Assumes nothing.
+-- A rising list of links makes a lawful network.
 use Rattle.std.proofs.Common.{◌≡◌, ℕ, ◌+◌, ◌*◌, ◌<◌, ◌≤◌, true, false, cond, ◌&&◌, eqb, ltb, leb, List, [], ◌∷◌, length, refl, ap₂, inl, inr, arith}
 use Rattle.std.proofs.lemmas.Bool.{ltb-true, leb-true, eqb-true, and_parts, or_cases, cond-true, cond-false, cond_both}
-use Rattle.links.specs.declared.link.Link.{Link}
-use Rattle.links.specs.Link.{ends_of}
+use Rattle.types.specs.declared.link.Link.{Link}
+use Rattle.types.specs.Link.{ends_of}
 use Rattle.links.specs.Links.{precedes, follows, start, rising_from, rising, cost_in, network_of}
 use Rattle.theory.specs.Network.{joins, Lawful, Limited}
 use Rattle.theory.proofs.Joins.{joins_symmetric, joins_ends}
 
 -- what a link that may follow is
 pub record Follows (n : ℕ) (p l : Link) : Type 0 where
-  pub order : l.a.0 < l.b.0
-  pub within : l.b.0 < n
+  pub order : l.a < l.b
+  pub within : l.b < n
   pub some : 0 < l.cost
   pub light : l.cost ≤ 65535
   pub after : precedes p l ≡ true
 
 pub follows_parts : (n : ℕ) (p l : Link) → follows n p l ≡ true → Follows n p l
 follows_parts n p l t =
-    let i = and_parts (ltb l.a.0 l.b.0 && ltb l.b.0 n && ltb 0 l.cost && leb l.cost 65535) (precedes p l) t in
-    let j = and_parts (ltb l.a.0 l.b.0 && ltb l.b.0 n && ltb 0 l.cost) (leb l.cost 65535) i.0 in
-    let k = and_parts (ltb l.a.0 l.b.0 && ltb l.b.0 n) (ltb 0 l.cost) j.0 in
-    let m = and_parts (ltb l.a.0 l.b.0) (ltb l.b.0 n) k.0 in
+    let i = and_parts (ltb l.a l.b && ltb l.b n && ltb 0 l.cost && leb l.cost 65535) (precedes p l) t in
+    let j = and_parts (ltb l.a l.b && ltb l.b n && ltb 0 l.cost) (leb l.cost 65535) i.0 in
+    let k = and_parts (ltb l.a l.b && ltb l.b n) (ltb 0 l.cost) j.0 in
+    let m = and_parts (ltb l.a l.b) (ltb l.b n) k.0 in
     record {
-      order = ltb-true l.a.0 l.b.0 m.0;
-      within = ltb-true l.b.0 n m.1;
+      order = ltb-true l.a l.b m.0;
+      within = ltb-true l.b n m.1;
       some = ltb-true 0 l.cost k.1;
       light = leb-true l.cost 65535 j.1;
       after = i.1;
@@ -37,15 +37,15 @@ pub rising_parts : (n : ℕ) (p l : Link) (ls : List Link) → rising_from n p (
 rising_parts n p l ls t = let h = rising_split n p l ls t in (follows_parts n p l h.0, h.1)
 
 -- there are fewer links than pairs of nodes
-pub rising_few : (n : ℕ) (p : Link) (ls : List Link) → n ≤ 64 → p.b.0 < 64 → p.a.0 * 64 + p.b.0 < 4096 → rising_from n p ls ≡ true → p.a.0 * 64 + p.b.0 + length ls < 4096
+pub rising_few : (n : ℕ) (p : Link) (ls : List Link) → n ≤ 64 → p.b < 64 → p.a * 64 + p.b < 4096 → rising_from n p ls ≡ true → p.a * 64 + p.b + length ls < 4096
 rising_few n p [] h k j t = omega arith
 rising_few n p (l ∷ ls) h k j t =
     let s = rising_parts n p l ls t in
     let f = s.0 in
     let i = rising_few n l ls h (omega (arith, f.within)) (omega (arith, f.within, f.order)) s.1 in
-    elim (or_cases (ltb p.a.0 l.a.0) (eqb p.a.0 l.a.0 && ltb p.b.0 l.b.0) f.after) [
-      | inl q ↦ omega (arith, ltb-true p.a.0 l.a.0 q)
-      | inr q ↦ let e = and_parts (eqb p.a.0 l.a.0) (ltb p.b.0 l.b.0) q in omega (arith, eqb-true p.a.0 l.a.0 e.0, ltb-true p.b.0 l.b.0 e.1)
+    elim (or_cases (ltb p.a l.a) (eqb p.a l.a && ltb p.b l.b) f.after) [
+      | inl q ↦ omega (arith, ltb-true p.a l.a q)
+      | inr q ↦ let e = and_parts (eqb p.a l.a) (ltb p.b l.b) q in omega (arith, eqb-true p.a l.a e.0, ltb-true p.b l.b e.1)
     ]
 
 -- the cost is that of the first link that joins the two

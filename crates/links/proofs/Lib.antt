@@ -1,6 +1,2 @@
-pub mod Arrays
 pub mod Lawful
 pub mod Listed
-pub mod Pieces
-pub mod RoundTrip
-pub mod NodeBits

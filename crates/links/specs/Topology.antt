@@ -1,9 +1,8 @@
--- The network that a topology is. Assumes nothing.
+-- The network that a topology is.
 use Rattle.std.specs.Prelude.{ℕ, List, vec_items}
 use Rattle.theory.specs.Network.{Network}
 use Rattle.links.specs.Links.{network_of}
-use Rattle.links.specs.Wire.{written}
-use Rattle.links.specs.declared.link.Link.{Link}
+use Rattle.types.specs.declared.link.Link.{Link}
 use Rattle.links.specs.declared.topology.Topology.{Topology}
 
 abbrev pub links_of : Topology → List Link
@@ -11,6 +10,3 @@ links_of t = vec_items t.links
 
 abbrev pub network : Topology → Network
 network t = network_of t.nodes (links_of t)
-
-abbrev pub written_of : Topology → List ℕ
-written_of t = written t.nodes (links_of t)

@@ -1,6 +1,0 @@
-use Rattle.std.proofs.Common.{sym, ◌∙◌, rules}
-use Rattle.links.proofs.NodeBits.{none_above}
-use Rattle.links.proofs.node_set.NodeSet.contains.Goals as goal
-
-pub returns-else-is_below : goal.returns-else-is_below
-returns-else-is_below c = c.if-is_below.false ∙ sym (none_above c.args.self.0 c.args.u.0 (search rules) (search rules))

@@ -1,9 +1,0 @@
-use Rattle.std.proofs.Common.{rules}
-use Rattle.links.proofs.NodeBits.{only_has, only_none}
-use Rattle.links.proofs.node_set.NodeSet.only.Goals as goal
-
-pub returns-then-not-is_below : goal.returns-then-not-is_below
-returns-then-not-is_below c v = only_none c.args.u.0 v (search rules)
-
-pub returns : goal.returns
-returns c v = only_has c.args.u.0 v (search rules)

@@ -1,6 +1,0 @@
-use Rattle.std.proofs.Common.{length}
-use Rattle.packets.specs.Packets.{packet_of}
-use Rattle.packets.proofs.packet.Packet.+stripped.Given as goal
-
-abbrev pub decreases-stripped : goal.decreases-stripped
-decreases-stripped l = length (packet_of l.self).segments

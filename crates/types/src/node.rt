@@ -1,0 +1,65 @@
+ghost use Rattle.std.specs.Prelude.{◌≡◌, ◌<◌, ◌↔◌, IsTrue, Some, Ok, Err, if◌then◌else◌, decimal, nat_lt};
+ghost use Rattle.types.specs.declared.fault.ReadFault.TheVariants.{NodeOutOfRange};
+
+use crate::fault::ReadFault;
+use std::fmt;
+use std::marker::Model;
+
+/// The most nodes that a network has.
+pub const MAX_NODES: usize = 64;
+
+/// A node by its number, which counts from 0.
+#[derive(Clone, Copy, PartialEq, Eq, PartialOrd, Ord, Debug)]
+pub struct NodeId(pub u8);
+
+impl Model for NodeId {
+    ghost use Rattle.std.specs.Prelude.{ℕ};
+
+    ghost Value = { ℕ };
+
+    ghost view = { λ node. node.0 };
+
+    ghost inverse = { λ number. record { 0 = number } };
+}
+
+impl NodeId {
+    /// Its number.
+    pub fn number(self) -> u8
+        ensures { result ≡ self }
+    {
+        self.0
+    }
+
+    /// Its number as an index.
+    pub fn index(self) -> usize
+        ensures { result ≡ self }
+    {
+        self.0 as usize
+    }
+
+    /// Is it one of so many nodes?
+    pub fn is_below(self, nodes: u8) -> bool
+        ensures { IsTrue result ↔ self < nodes }
+    {
+        self.0 < nodes
+    }
+
+    /// Refused where it is not one of so many nodes.
+    pub fn check(self, nodes: u8) -> Result<(), ReadFault>
+        ensures { result ≡ (if nat_lt self nodes then Ok tt else Err NodeOutOfRange) }
+    {
+        if self.is_below(nodes) {
+            Ok(())
+        } else {
+            Err(ReadFault::NodeOutOfRange)
+        }
+    }
+}
+
+impl fmt::Display for NodeId {
+    ghost output = { λ node. Some (decimal node) };
+
+    fn fmt<W: fmt::Write>(&self, f: &mut fmt::Formatter<W>) -> fmt::Result {
+        write!(f, "{}", self.0)
+    }
+}

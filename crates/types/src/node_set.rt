@@ -1,0 +1,104 @@
+ghost use Rattle.std.specs.Prelude.{◌≡◌, ℕ, ◌↔◌, IsTrue, false, not, ◌&&◌, ◌||◌, ◌==◌, nat_lt};
+ghost use Rattle.types.specs.NodeSets.{has, IsFirst, TakenFirst};
+
+use crate::node::NodeId;
+
+/// A set of nodes below 64, the most that a network has: node u is in it where bit u is set.
+#[derive(Clone, Copy, PartialEq, Eq, Debug)]
+pub struct NodeSet(u64);
+
+impl NodeSet {
+    pub fn empty() -> NodeSet
+        ensures { (u : ℕ) → has result u ≡ false }
+    {
+        NodeSet(0)
+    }
+
+    /// The nodes below n, and below 64.
+    pub fn below(n: u8) -> NodeSet
+        ensures { (v : ℕ) → has result v ≡ (nat_lt v n && nat_lt v 64) }
+    {
+        if n >= 64 {
+            return NodeSet(u64::MAX);
+        }
+        NodeSet((1u64 << n) - 1)
+    }
+
+    /// The node u alone, if it is below 64.
+    pub fn only(u: NodeId) -> NodeSet
+        ensures { (v : ℕ) → has result v ≡ (v == u && nat_lt v 64) }
+    {
+        if !u.is_below(64) {
+            return NodeSet(0);
+        }
+        NodeSet(1u64 << u.number())
+    }
+
+    /// Is u in the set?
+    pub fn contains(self, u: NodeId) -> bool
+        ensures { result ≡ has self u }
+    {
+        u.is_below(64) && (self.0 >> u.number()) & 1 == 1
+    }
+
+    /// Is nobody in it?
+    pub fn is_empty(self) -> bool
+        ensures { IsTrue result ↔ ((u : ℕ) → has self u ≡ false) }
+    {
+        self.0 == 0
+    }
+
+    /// The lowest node in it, if there is one.
+    pub fn first(self) -> Option<NodeId>
+        ensures { IsFirst self result }
+    {
+        if self.0 == 0 {
+            return None;
+        }
+        Some(NodeId(self.0.trailing_zeros() as u8))
+    }
+
+    /// u is in it too, if it is below 64.
+    pub fn insert(&mut self, u: NodeId)
+        ensures { (v : ℕ) → has self.new v ≡ ((v == u && nat_lt v 64) || has self.old v) }
+    {
+        *self = NodeSet(NodeSet::only(u).0 | self.0);
+    }
+
+    /// u is no longer in it.
+    pub fn remove(&mut self, u: NodeId)
+        ensures { (v : ℕ) → has self.new v ≡ (has self.old v && not (v == u)) }
+    {
+        *self = NodeSet(self.0 & !NodeSet::only(u).0);
+    }
+
+    /// The lowest node in it is taken out.
+    pub fn take_first(&mut self) -> Option<NodeId>
+        ensures { TakenFirst self.old self.new result }
+    {
+        let u = self.first()?;
+        self.remove(u);
+        Some(u)
+    }
+
+    /// Its nodes and those of the other.
+    pub fn or(self, other: NodeSet) -> NodeSet
+        ensures { (v : ℕ) → has result v ≡ (has self v || has other v) }
+    {
+        NodeSet(self.0 | other.0)
+    }
+
+    /// Those of its nodes that are in the other, too.
+    pub fn and(self, other: NodeSet) -> NodeSet
+        ensures { (v : ℕ) → has result v ≡ (has self v && has other v) }
+    {
+        NodeSet(self.0 & other.0)
+    }
+
+    /// Those that are not.
+    pub fn minus(self, other: NodeSet) -> NodeSet
+        ensures { (v : ℕ) → has result v ≡ (has self v && not (has other v)) }
+    {
+        NodeSet(self.0 & !other.0)
+    }
+}
