@@ -1,4 +1,4 @@
--- When nothing more happens, all that can know have switched for all destinations. Assumes nothing.
+-- When nothing more happens, all that can know have switched for all destinations.
 use Rattle.std.proofs.Common.{◌≡◌, ℕ, zero, suc, ◌<◌, Bool, true, false, ◌⊎◌, List, [], ◌∷◌, is_some, Some, sym, refl, ap, ◌∙◌, subst, inl, inr, arith}
 use Rattle.std.specs.List.{flat_map as joined}
 use Rattle.std.proofs.lemmas.Bool.{both_ways, cases_Bool, and_from}
@@ -6,7 +6,7 @@ use Rattle.protocol.specs.Hearing.{waits_for}
 use Rattle.protocol.specs.Failed.{Stale, after}
 use Rattle.protocol.specs.Progress.{Progress, CalmAgain, CalmFirst, Quiet}
 use Rattle.protocol.specs.System.{System}
-use Rattle.protocol.specs.Router.{has_link, Router, Message, LinkDown, Switched}
+use Rattle.protocol.specs.Router.{has_link, Router}
 use Rattle.protocol.specs.Switching.{all_below, may}
 use Rattle.protocol.proofs.Said.{no_message, down_to, over_to}
 use Rattle.protocol.proofs.Invariant.{Honest, OpenOk, Noted}
@@ -23,6 +23,9 @@ use Rattle.theory.proofs.Joins.{joins_symmetric}
 use Rattle.theory.proofs.Without.{cost_left, lawful_without}
 use Rattle.theory.proofs.Using.{first_link, one_end}
 use Rattle.theory.proofs.HopPaths.{by_next_hops, stop_end}
+use Rattle.types.specs.declared.message.Message.TheVariants as message
+use Rattle.types.specs.declared.message.Message.{Message}
+use Rattle.types.specs.declared.message.Message.TheVariants.{LinkDown}
 
 all_from : (k : ℕ) (p : ℕ → Bool) → ((u : ℕ) → u < k → p u ≡ true) → all_below k p ≡ true
 unfolding all_below

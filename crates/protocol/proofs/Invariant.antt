@@ -1,17 +1,21 @@
--- What holds in every state after the failure of a link: messages are honest, what came was heard, and the order is kept. Assumes nothing.
+-- What holds in every state after the failure of a link: messages are honest, what came was heard, and the order is kept.
 use Rattle.std.proofs.Common.{◌≡◌, ℕ, ◌<◌, ◌≤◌, Bool, true, false, cond, eqb, ◌⊎◌, List, ◌++◌, Some, sym, refl, ap, ◌∙◌, subst, inl, inr, arith}
 use Rattle.std.proofs.lemmas.Bool.{eqb-true, eq-eqb, ne_eqb, cond-true, cond-false, cond_both}
 use Rattle.protocol.specs.Hearing.{waits_for, came_early}
 use Rattle.protocol.specs.Failed.{Stale, Done}
 use Rattle.protocol.specs.Order.{InOrder}
 use Rattle.protocol.specs.System.{nth, set_router, go_on, System, Flight}
-use Rattle.protocol.specs.Router.{same_link, Router, Sent, NoFailure, Message, LinkDown, Switched, Goes}
+use Rattle.protocol.specs.Router.{same_link, Router, Goes}
 use Rattle.protocol.specs.Switching.{all_below}
 use Rattle.protocol.proofs.Said.{nth_old, nth_either, down_to, over_to}
 use Rattle.protocol.proofs.Shape.{build, over, knows, Shape, Unaware, Switching, Settled}
 use Rattle.protocol.proofs.Enough.{Grows}
 use Rattle.theory.specs.NextHop.{same, next_hop, uses}
 use Rattle.theory.specs.Network.{joins, without, Network, LinkId}
+use Rattle.types.specs.declared.message.Message.TheVariants as message
+use Rattle.types.specs.declared.message.Message.{Message}
+use Rattle.types.specs.declared.message.Message.TheVariants.{LinkDown}
+use Rattle.types.specs.declared.message.Sent.{Sent}
 
 abbrev pub done_of : (ℕ → Shape) → Done
 done_of sh = λ d u. over (sh u) d

@@ -1,11 +1,11 @@
--- Only so many events change anything, and the others change nothing. Assumes nothing.
+-- Only so many events change anything, and the others change nothing.
 use Rattle.std.proofs.Common.{◌≡◌, ℕ, zero, suc, ◌+◌, ◌*◌, ◌<◌, ◌≤◌, Bool, true, false, cond, not, ◌&&◌, ◌||◌, eqb, ltb, List, [], ◌∷◌, ◌++◌, length, is_some, Some, None, Option, sym, refl, ap, ◌∙◌, subst, inl, inr, mul-le-mul_right, arith, length-append}
 use Rattle.std.proofs.lemmas.Bool.{both_ways, not-true, not-false, ltb-true, eqb-true, eq-eqb, ne_eqb, cases_lt, and_parts, cases_eq, cases_Bool, or_left, or_right, not_from_true, not_from_false, cond-true, cond-false, cond_both}
 use Rattle.protocol.specs.Hearing.{waits_for, came_early, keep, unwait, switched_in, hear}
 use Rattle.protocol.specs.Failed.{after, Failed}
 use Rattle.protocol.specs.Progress.{changes, changing, Bounded, Same}
 use Rattle.protocol.specs.System.{nth, go_on, arrive, moved, put_on, set_flight, step, notices, fails, count_if, System, Flight, Event, Arrive, Switch, Put, Hop}
-use Rattle.protocol.specs.Router.{idle, same_link, has_link, among, has_switched, Router, Sent, Failure, NoFailure, Down, Message, LinkDown, Switched, Reply, Refused, Stays, Goes}
+use Rattle.protocol.specs.Router.{idle, same_link, has_link, among, has_switched, Router, Transition, Reply, Refused, Stays, Goes}
 use Rattle.protocol.specs.Switching.{none_below, all_below, may_in, may, mark, after_switch, says, switch_in, switch}
 use Rattle.protocol.proofs.Said.{nth_old, nth_within, tell_few, say_few}
 use Rattle.protocol.proofs.Invariant.{Honest, Taken, Later}
@@ -14,6 +14,11 @@ use Rattle.protocol.proofs.Links.{joins_self, Ignored, ignored_stays}
 use Rattle.protocol.proofs.Steps.{stale_build, down_unaware, down_known, over_noted, held_later, Held, held_start, stepped, held, done_is}
 use Rattle.theory.specs.Network.{Network, LinkId}
 use Rattle.theory.proofs.Distances.{count, one_most, count_most, count_le, count_lt}
+use Rattle.types.specs.declared.message.Message.TheVariants as message
+use Rattle.types.specs.declared.fault.Refusal.TheVariants.{NotPending}
+use Rattle.types.specs.declared.message.Message.{Message}
+use Rattle.types.specs.declared.message.Message.TheVariants.{LinkDown}
+use Rattle.types.specs.declared.message.Sent.{Sent}
 
 -- sums
 total : ℕ → (ℕ → ℕ) → ℕ
@@ -143,12 +148,12 @@ coming_same σ fl = refl
 -- a Switched message is never answered by messages
 over_silent : (s : Router) (v u d : ℕ) (l : LinkId) → new_in (hear s v (Switched u d l)) ≡ 0
 over_silent s v u d l =
-    cond_both (has_link s.links l) (cond (eqb v u) (switched_in u d l s s.failure) (Refused 6)) (Refused (cond (among l s.removed) 6 4)) (λ R. new_in R ≡ 0)
-    (λ _. cond_both (eqb v u) (switched_in u d l s s.failure) (Refused 6) (λ R. new_in R ≡ 0) (λ _. inner s.failure) (λ _. refl)) (λ _. refl)
+    cond_both (has_link s.links l) (cond (eqb v u) (switched_in u d l s s.failure) (Refused NotPending)) (Refused (cond (among l s.removed) NotPending NoSuchLink)) (λ R. new_in R ≡ 0)
+    (λ _. cond_both (eqb v u) (switched_in u d l s s.failure) (Refused NotPending) (λ R. new_in R ≡ 0) (λ _. inner s.failure) (λ _. refl)) (λ _. refl)
   where
     inner : (f : Failure) → new_in (switched_in u d l s f) ≡ 0
-    inner NoFailure = cond_both (waits_for s.links l d s.me u && not (came_early l d u s.early)) (Goes (keep u d l s) []) (Refused 6) (λ R. new_in R ≡ 0) (λ _. refl) (λ _. refl)
-    inner (Down m) = cond_both (same_link m l && s.pending d u) (Goes (unwait u d s) []) (Refused 6) (λ R. new_in R ≡ 0) (λ _. refl) (λ _. refl)
+    inner NoFailure = cond_both (waits_for s.links l d s.me u && not (came_early l d u s.early)) (Goes (keep u d l s) []) (Refused NotPending) (λ R. new_in R ≡ 0) (λ _. refl) (λ _. refl)
+    inner (Down m) = cond_both (same_link m l && s.pending d u) (Goes (unwait u d s) []) (Refused NotPending) (λ R. new_in R ≡ 0) (λ _. refl) (λ _. refl)
 
 module _ (z : Network) (r : LinkId) (ω : System) (F : Failed z r ω) where
   down_new : (w v : ℕ) (S : Shape) → new_in (hear (build z r F.calm.gone w S) v (LinkDown r)) ≤ z.n

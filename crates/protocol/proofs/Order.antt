@@ -1,11 +1,11 @@
--- The rule is kept, and what follows for the next hops in use. Assumes nothing.
+-- The rule is kept, and what follows for the next hops in use.
 use Rattle.std.proofs.Common.{◌≡◌, ℕ, zero, suc, ◌<◌, Bool, true, false, cond, not, ◌&&◌, ltb, List, sym, refl, ap, ◌∙◌, subst, inl, inr, arith}
 use Rattle.std.proofs.lemmas.Bool.{both_ways, lt-ltb, cases_lt, cases_Bool, and_from, not_from_false}
 use Rattle.protocol.specs.Hearing.{waits_for}
 use Rattle.protocol.specs.Failed.{after, done_in, Failed}
 use Rattle.protocol.specs.Order.{RuleKept, Waits, UntouchedSwitch, Afterwards}
 use Rattle.protocol.specs.System.{System, Event}
-use Rattle.protocol.specs.Router.{entry, Router, NoFailure, Down}
+use Rattle.protocol.specs.Router.{entry, Router}
 use Rattle.protocol.specs.Switching.{none_below, may}
 use Rattle.protocol.proofs.Invariant.{WaitsOk, OpenOk}
 use Rattle.protocol.proofs.Touched.{waits_parts}

@@ -1,10 +1,10 @@
--- The invariant holds when the link has failed, and each event keeps it. Assumes nothing.
+-- The invariant holds when the link has failed, and each event keeps it.
 use Rattle.std.proofs.Common.{◌≡◌, ℕ, ◌<◌, Bool, true, false, cond, not, ◌&&◌, ◌||◌, eqb, ltb, List, [], ◌∷◌, Some, None, Option, sym, refl, ap, ◌∙◌, subst, inl, inr, arith}
 use Rattle.std.proofs.lemmas.Bool.{both_ways, eqb-true, eq-eqb, cases_lt, and_parts, cases_Bool, and_from, and_right, or_cases, not_from_true, not_from_false, cond-true, cond-false, cond_both}
 use Rattle.protocol.specs.Hearing.{waits_for, came_early, learn, tell, keep, unwait, switched_in, hear}
 use Rattle.protocol.specs.Failed.{Stale, after, done_in, Calm, Failed}
 use Rattle.protocol.specs.System.{nth, go_on, arrive, moved, put_on, set_flight, step, run, notices, fails, System, Event, Arrive, Switch, Put, Hop}
-use Rattle.protocol.specs.Router.{same_link, has_link, among, has_switched, Early, Router, Sent, Failure, Down, Message, LinkDown, Switched, Reply, Refused, Stays, Goes}
+use Rattle.protocol.specs.Router.{same_link, has_link, among, has_switched, Router, Transition, Reply, Refused, Stays, Goes}
 use Rattle.protocol.specs.Switching.{none_below, may_in, after_switch, says, switch_in, switch}
 use Rattle.protocol.proofs.Said.{same_message}
 use Rattle.protocol.proofs.Invariant.{put_at, put_own, Honest, Noted, Taken, Newly, unchanged, Inv, Later}
@@ -13,6 +13,12 @@ use Rattle.protocol.proofs.Links.{joins_self, link_gone, link_there, still_gone,
 use Rattle.protocol.proofs.Changes.{early_none, early_new, learned, kept, unwaited, learns, keeps, unwaits, switches}
 use Rattle.theory.specs.Network.{joins, without, Network, Lawful, LinkId}
 use Rattle.theory.proofs.Joins.{joins_ends}
+use Rattle.types.specs.declared.message.Message.TheVariants as message
+use Rattle.types.specs.declared.fault.Refusal.TheVariants.{NoSuchLink, SecondFailure, NotPending}
+use Rattle.types.specs.declared.message.Message.{Message}
+use Rattle.types.specs.declared.message.Message.TheVariants.{LinkDown}
+use Rattle.types.specs.declared.message.Sent.{Sent}
+use Rattle.types.specs.declared.message.Switched.{Switched}
 
 -- a message about another link has not to be heard
 stale_taken : (z : Network) → Lawful z → (r : LinkId) → 0 < z.cost r.a r.b → (S : Shape) (m : Message) → Stale z m → Taken r S m
@@ -29,44 +35,44 @@ stale_build z r G w v (Switching sw pe) m n = stale_heard (build z r G w (Switch
 stale_build z r G w v Settled m n = stale_heard (build z r G w Settled) v m (stale_without z r m n)
 
 -- what a router of each shape replies to LinkDown for the failed link
-pub down_unaware : (z : Network) (r : LinkId) (G : ℕ → List LinkId) → 0 < z.cost r.a r.b → (w v : ℕ) (es : List Early) → hear (build z r G w (Unaware es)) v (LinkDown r) ≡ Goes (learn r (build z r G w (Unaware es))) (tell z r w z.n)
+pub down_unaware : (z : Network) (r : LinkId) (G : ℕ → List LinkId) → 0 < z.cost r.a r.b → (w v : ℕ) (es : List Switched) → hear (build z r G w (Unaware es)) v (LinkDown r) ≡ Goes (learn r (build z r G w (Unaware es))) (tell z r w z.n)
 down_unaware z r G pos w v es =
-    cond-true (has_link z r) (Goes (learn r (build z r G w (Unaware es))) (tell z r w z.n)) (cond (among r (G w)) Stays (Refused 4)) (link_there z r pos)
+    cond-true (has_link z r) (Goes (learn r (build z r G w (Unaware es))) (tell z r w z.n)) (cond (among r (G w)) Stays (Refused NoSuchLink)) (link_there z r pos)
 
 pub down_known : (z : Network) (r : LinkId) (G : ℕ → List LinkId) → 0 < z.cost r.a r.b → (w v : ℕ) (S : Shape) → knows S ≡ true → hear (build z r G w S) v (LinkDown r) ≡ Stays
 down_known z r G pos w v (Unaware es) k = absurd (both_ways false refl k)
 down_known z r G pos w v (Switching sw pe) k =
-    cond-true (has_link z r) (cond (same_link r r) Stays (Refused 5)) (cond (among r (G w)) Stays (Refused 4)) (link_there z r pos) ∙ cond-true (same_link r r) Stays (Refused 5) (joins_self r)
+    cond-true (has_link z r) (cond (same_link r r) Stays (Refused SecondFailure)) (cond (among r (G w)) Stays (Refused NoSuchLink)) (link_there z r pos) ∙ cond-true (same_link r r) Stays (Refused SecondFailure) (joins_self r)
 down_known z r G pos w v Settled k = ((stale_ignored (build z r G w Settled) r (link_gone z r) v).taken (among_first r (G w))).0
 
 -- and to Switched from u, whom it waits for
 over_reply : (z : Network) (r : LinkId) (G : ℕ → List LinkId) → 0 < z.cost r.a r.b → (w u d : ℕ) (S : Shape) → (build z r G w S).links ≡ z → hear (build z r G w S) u (Switched u d r) ≡ switched_in u d r (build z r G w S) (build z r G w S).failure
 over_reply z r G pos w u d S e =
     let s = build z r G w S in
-    cond-true (has_link s.links r) (cond (eqb u u) (switched_in u d r s s.failure) (Refused 6)) (Refused (cond (among r s.removed) 6 4)) (ap (λ (x : Network). has_link x r) e ∙ link_there z r pos) ∙
-    cond-true (eqb u u) (switched_in u d r s s.failure) (Refused 6) (eq-eqb u u refl)
+    cond-true (has_link s.links r) (cond (eqb u u) (switched_in u d r s s.failure) (Refused NotPending)) (Refused (cond (among r s.removed) NotPending NoSuchLink)) (ap (λ (x : Network). has_link x r) e ∙ link_there z r pos) ∙
+    cond-true (eqb u u) (switched_in u d r s s.failure) (Refused NotPending) (eq-eqb u u refl)
 
-pub over_noted : (z : Network) (r : LinkId) (G : ℕ → List LinkId) → 0 < z.cost r.a r.b → (w u d : ℕ) (S : Shape) → Noted r S d u → hear (build z r G w S) u (Switched u d r) ≡ Refused 6
+pub over_noted : (z : Network) (r : LinkId) (G : ℕ → List LinkId) → 0 < z.cost r.a r.b → (w u d : ℕ) (S : Shape) → Noted r S d u → hear (build z r G w S) u (Switched u d r) ≡ Refused NotPending
 over_noted z r G pos w u d (Unaware es) n =
     let s = build z r G w (Unaware es) in
     over_reply z r G pos w u d (Unaware es) refl ∙
-    cond-false (waits_for z r d w u && not (came_early r d u es)) (Goes (keep u d r s) []) (Refused 6) (and_right (waits_for z r d w u) (not (came_early r d u es)) (not_from_true (came_early r d u es) n))
+    cond-false (waits_for z r d w u && not (came_early r d u es)) (Goes (keep u d r s) []) (Refused NotPending) (and_right (waits_for z r d w u) (not (came_early r d u es)) (not_from_true (came_early r d u es) n))
 over_noted z r G pos w u d (Switching sw pe) n =
     let s = build z r G w (Switching sw pe) in
-    over_reply z r G pos w u d (Switching sw pe) refl ∙ cond-false (same_link r r && pe d u) (Goes (unwait u d s) []) (Refused 6) (and_right (same_link r r) (pe d u) n)
+    over_reply z r G pos w u d (Switching sw pe) refl ∙ cond-false (same_link r r && pe d u) (Goes (unwait u d s) []) (Refused NotPending) (and_right (same_link r r) (pe d u) n)
 over_noted z r G pos w u d Settled n = ((stale_ignored (build z r G w Settled) r (link_gone z r) u).taken (among_first r (G w))).1 u d
 
-over_early : (z : Network) (r : LinkId) (G : ℕ → List LinkId) → 0 < z.cost r.a r.b → (w u d : ℕ) (es : List Early) → waits_for z r d w u ≡ true → came_early r d u es ≡ false →
+over_early : (z : Network) (r : LinkId) (G : ℕ → List LinkId) → 0 < z.cost r.a r.b → (w u d : ℕ) (es : List Switched) → waits_for z r d w u ≡ true → came_early r d u es ≡ false →
     hear (build z r G w (Unaware es)) u (Switched u d r) ≡ Goes (keep u d r (build z r G w (Unaware es))) []
 over_early z r G pos w u d es t n =
     over_reply z r G pos w u d (Unaware es) refl ∙
-    cond-true (waits_for z r d w u && not (came_early r d u es)) (Goes (keep u d r (build z r G w (Unaware es))) []) (Refused 6) (and_from (waits_for z r d w u) (not (came_early r d u es)) t (not_from_false (came_early r d u es) n))
+    cond-true (waits_for z r d w u && not (came_early r d u es)) (Goes (keep u d r (build z r G w (Unaware es))) []) (Refused NotPending) (and_from (waits_for z r d w u) (not (came_early r d u es)) t (not_from_false (came_early r d u es) n))
 
 over_pending : (z : Network) (r : LinkId) (G : ℕ → List LinkId) → 0 < z.cost r.a r.b → (w u d : ℕ) (sw : ℕ → Bool) (pe : ℕ → ℕ → Bool) → pe d u ≡ true →
     hear (build z r G w (Switching sw pe)) u (Switched u d r) ≡ Goes (unwait u d (build z r G w (Switching sw pe))) []
 over_pending z r G pos w u d sw pe t =
     over_reply z r G pos w u d (Switching sw pe) refl ∙
-    cond-true (same_link r r && pe d u) (Goes (unwait u d (build z r G w (Switching sw pe))) []) (Refused 6) (and_from (same_link r r) (pe d u) (joins_self r) t)
+    cond-true (same_link r r && pe d u) (Goes (unwait u d (build z r G w (Switching sw pe))) []) (Refused NotPending) (and_from (same_link r r) (pe d u) (joins_self r) t)
 
 module _ (z : Network) (g : Lawful z) (r : LinkId) (pos : 0 < z.cost r.a r.b) (G : ℕ → List LinkId) where
   -- a reply that changes nothing

@@ -1,15 +1,16 @@
--- The worked cases, by computation. Assumes nothing.
+-- The worked cases, by computation.
 use Rattle.std.proofs.Common.{refl}
 use Rattle.protocol.specs.Table.{Table}
 use Rattle.protocol.specs.Hearing.{came_early, tell}
 use Rattle.protocol.specs.System.{nth, run}
 use Rattle.protocol.specs.Router.{among}
-use Rattle.protocol.specs.Packet.{strip, forward_by}
+use Rattle.protocol.specs.Packet.{forward_by}
 use Rattle.protocol.specs.Switching.{none_below, all_below}
 use Rattle.theory.proofs.Cases as theory
 use Rattle.theory.specs.Repair.{last_clear}
 use Rattle.theory.specs.NextHop.{first_from, path_by, uses_by}
 use Rattle.theory.specs.Distance.{least_over, distance_by}
+use Rattle.types.specs.Segments.{strip}
 
 pub table : Table
 unfolding distance_by least_over first_from path_by uses_by last_clear among came_early tell none_below all_below strip forward_by nth run
