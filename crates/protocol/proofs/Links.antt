@@ -1,6 +1,6 @@
 -- Lists that have a link or not, and messages about links that are not in the list.
 use Rattle.std.proofs.Common.{◌≡◌, ℕ, ◌<◌, Bool, true, false, cond, ◌&&◌, eqb, ltb, List, ◌∷◌, sym, refl, ap, ◌∙◌, subst, ap₂, inl, inr, arith}
-use Rattle.std.proofs.lemmas.Bool.{ltb-false, lt-ltb, le-ltb, eq-eqb, cases_Bool, and_from, or_left, cond-true, cond-false, cond_both}
+use Rattle.std.proofs.lemmas.Bool.{ltb-false, lt-ltb, le-ltb, eq-eqb, cases_Bool, and_from, or_left, cond-false, cond_both}
 use Rattle.protocol.specs.Hearing.{hear}
 use Rattle.protocol.specs.Failed.{Stale}
 use Rattle.protocol.specs.Order.{StaleIgnored}

@@ -1,7 +1,7 @@
 -- The three states in which a router can be when one link fails: it does not know, it is switching, it has switched for all destinations.
 use Rattle.std.proofs.Common.{◌≡◌, ℕ, ◌<◌, Bool, true, false, cond, not, List, [], ◌∷◌, Some, None, refl, ap, ◌∙◌, inl, inr}
 use Rattle.std.proofs.lemmas.Bool.{both_ways, cases_Bool, not_from_true, not_from_false}
-use Rattle.protocol.specs.Router.{idle, has_link, entry, has_switched, Router}
+use Rattle.protocol.specs.Router.{idle, has_link, entry, has_switched, Router, Transition}
 use Rattle.protocol.specs.Packet.{known_down}
 use Rattle.protocol.proofs.Touched.{Steady}
 use Rattle.protocol.proofs.Links.{link_gone, link_there}
@@ -15,11 +15,13 @@ pub data Shape : Type 0 where
   Switching : (ℕ → Bool) → (ℕ → ℕ → Bool) → Shape
   Settled : Shape
 
+abbrev pub transition_of : LinkId → (ℕ → Bool) → (ℕ → ℕ → Bool) → Transition
+transition_of r sw pe = record { link = r; switched = sw; pending = pe }
+
 -- the router u of that shape; G has the links that each router had taken out before
 abbrev pub build : Network → LinkId → (ℕ → List LinkId) → ℕ → Shape → Router
 build z r G u (Unaware es) = record { me = u; links = z; removed = G u; transition = None; early = es }
-build z r G u (Switching sw pe) =
-    record { me = u; links = z; removed = G u; transition = Some (record { link = r; switched = sw; pending = pe }); early = [] }
+build z r G u (Switching sw pe) = record { me = u; links = z; removed = G u; transition = Some (transition_of r sw pe); early = [] }
 build z r G u Settled = idle (without r z) (r ∷ G u) u
 
 -- it has switched for d

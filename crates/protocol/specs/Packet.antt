@@ -1,5 +1,5 @@
 -- How a router forwards a packet.
-use Rattle.std.specs.Prelude.{◌≡◌, ℕ, zero, suc, ◌+◌, ◌-◌, Bool, false, not, ◌&&◌, List, [], ◌∷◌, length, Some, None, Option, if◌then◌else◌, ◌==◌, nat_le, nat_lt}
+use Rattle.std.specs.Prelude.{◌≡◌, ℕ, zero, suc, ◌+◌, ◌-◌, Bool, false, ◌&&◌, List, [], ◌∷◌, length, Some, None, Option, if◌then◌else◌, ◌==◌, nat_le, nat_lt}
 use Rattle.protocol.specs.Router.{entry, known_failure, Router}
 use Rattle.theory.specs.Repair.{repair, Repair}
 use Rattle.theory.specs.Network.{joins, LinkId}

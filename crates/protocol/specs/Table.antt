@@ -1,9 +1,8 @@
 -- The worked cases as one table: rings in which the link 0-1 fails.
-use Rattle.std.specs.Prelude.{◌≡◌, ℕ, Bool, true, false, List, [], ◌∷◌, ◌++◌, map, Some, Option}
+use Rattle.std.specs.Prelude.{◌≡◌, ℕ, Bool, true, false, List, [], ◌∷◌, ◌++◌, map, Some}
 use Rattle.std.specs.Option.{option_map_or}
 use Rattle.protocol.specs.Failed.{after}
-use Rattle.protocol.specs.System.{nth, run, set_router, step, whole, System, Flight, UnderWay, Delivered, Event, Arrive, Switch, Put, Hop}
-use Rattle.protocol.specs.Router.{Router}
+use Rattle.protocol.specs.System.{nth, set_router, step, whole, System, Flight, UnderWay, Delivered, Event, Arrive, Switch, Put, Hop}
 use Rattle.protocol.specs.Switching.{may, after_switch}
 use Rattle.theory.specs.Worked as theory
 use Rattle.types.specs.Packet.{fresh}
