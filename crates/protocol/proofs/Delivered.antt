@@ -86,7 +86,7 @@ absent_reached z g d u (Link a b ∷ ss) h =
 -- a calm system stays calm, and no router takes a link out
 record StaysCalm (z : Network) (G : ℕ → List LinkId) (σ : System) : Type 0 where
   nothing : (u : ℕ) → u < z.n → σ.routers u ≡ idle z (G u) u
-  others : (u : ℕ) → z.n ≤ u → (σ.routers u).failure ≡ NoFailure
+  others : (u : ℕ) → z.n ≤ u → (σ.routers u).transition ≡ None
   old : (k : ℕ) (m : Sent) → nth σ.said k ≡ Some m → (m.to < z.n) × Stale z m.message
 
 calm_ignores : (z : Network) (G : ℕ → List LinkId) (σ : System) → StaysCalm z G σ → (u : ℕ) (came : ℕ → Bool) (R : Reply) → Ignored R → StaysCalm z G (go_on σ u came R)
@@ -102,8 +102,9 @@ calm_arrive z G σ C k (Some m) e =
 calm_step : (z : Network) (G : ℕ → List LinkId) (e : Event) (σ : System) → StaysCalm z G σ → StaysCalm z G (step e σ)
 calm_step z G (Arrive k) σ C = calm_arrive z G σ C k (nth σ.said k) refl
 calm_step z G (Switch u d) σ C =
-    let f : (σ.routers u).failure ≡ NoFailure = elim (cases_lt u z.n) [ inl b ↦ ap (λ (s : Router). s.failure) (C.nothing u b) | inr b ↦ C.others u b ] in
-    calm_ignores z G σ C u σ.came (switch (σ.routers u) d) (subst (λ x. Ignored (switch_in (σ.routers u) d x)) (sym f) tt)
+    let n : (σ.routers u).transition ≡ None =
+        elim (cases_lt u z.n) [ inl b ↦ ap (λ (s : Router). s.transition) (C.nothing u b) | inr b ↦ C.others u b ] in
+    calm_ignores z G σ C u σ.came (switch (σ.routers u) d) (subst (λ o. Ignored (switch_in (σ.routers u) d o)) (sym n) tt)
 calm_step z G (Put q u p) σ C = record { nothing = C.nothing; others = C.others; old = C.old }
 calm_step z G (Hop q) σ C = record { nothing = C.nothing; others = C.others; old = C.old }
 

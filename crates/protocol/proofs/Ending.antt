@@ -132,8 +132,8 @@ calm_again z r ω F es Q joined = (
     stale : (v w : ℕ) (m : Message) → Honest z r H.inv.shape v w m ⊎ Stale z m → Stale (without r z) m
     stale v w (LinkDown l) (inl h) = ap (λ x. has_link (without r z) x) h ∙ link_gone z r
     stale v w (LinkDown l) (inr h) = still_gone z r l h
-    stale v w (Switched u d l) (inl h) = ap (λ x. has_link (without r z) x) h.0 ∙ link_gone z r
-    stale v w (Switched u d l) (inr h) = still_gone z r l h
+    stale v w (message.Switched m) (inl h) = ap (λ x. has_link (without r z) x) h.0 ∙ link_gone z r
+    stale v w (message.Switched m) (inr h) = still_gone z r m.link h
 
 pub calm_first : CalmFirst
 calm_first z = record { gone = λ u. []; nothing = λ u b. refl; others = λ u b. refl; old = λ k m e. absurd (no_message k m e); came = λ k h. absurd (both_ways false refl h) }

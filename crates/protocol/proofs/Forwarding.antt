@@ -1,6 +1,6 @@
 -- One step of a packet at a router of a given shape.
-use Rattle.std.proofs.Common.{◌≡◌, ℕ, suc, ◌+◌, ◌-◌, ◌<◌, ◌≤◌, Bool, true, false, cond, not, ◌&&◌, eqb, ltb, leb, List, [], ◌∷◌, length, Some, sym, refl, ap, ◌∙◌, arith}
-use Rattle.std.proofs.lemmas.Bool.{both_ways, lt-ltb, le-leb, eq-eqb, ne_eqb, and_from, not_from_false, cond-true, cond-false}
+use Rattle.std.proofs.Common.{◌≡◌, ℕ, suc, ◌+◌, ◌-◌, ◌<◌, ◌≤◌, Bool, true, false, cond, eqb, ltb, leb, List, [], ◌∷◌, length, Some, sym, refl, ap, ◌∙◌, arith}
+use Rattle.std.proofs.lemmas.Bool.{both_ways, lt-ltb, le-leb, eq-eqb, ne_eqb, and_from, cond-true, cond-false}
 use Rattle.protocol.specs.Delivery.{aim_at, blocked}
 use Rattle.protocol.specs.Router.{entry, known_failure, Router}
 use Rattle.protocol.specs.Packet.{known_down, go_over, begins_here, over_link, put_repair, repair_in, by_hop, towards, by_segments, forward_by, Decision, Deliver, Send, Drop}
