@@ -1,3 +1,4 @@
 pub mod Arrays
 pub mod NodeBits
 pub mod Stripped
+pub mod Taken

@@ -2,6 +2,7 @@ ghost use Rattle.std.specs.Prelude.{◌≡◌, ◌<◌, ◌↔◌, IsTrue, Some,
 ghost use Rattle.types.specs.declared.fault.ReadFault.TheVariants.{NodeOutOfRange};
 
 use crate::fault::ReadFault;
+use crate::nodes::Nodes;
 use std::fmt;
 use std::marker::Model;
 
@@ -23,6 +24,17 @@ impl Model for NodeId {
 }
 
 impl NodeId {
+    /// All of so many nodes, rising.
+    pub fn all(nodes: u8) -> Nodes
+        ensures from_the_first { result.next ≡ 0 }
+        ensures to_the_last { result.end ≡ nodes }
+    {
+        Nodes {
+            next: 0,
+            end: nodes,
+        }
+    }
+
     /// Its number.
     pub fn number(self) -> u8
         ensures { result ≡ self }

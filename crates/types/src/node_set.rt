@@ -2,6 +2,7 @@ ghost use Rattle.std.specs.Prelude.{◌≡◌, ℕ, ◌↔◌, IsTrue, false, no
 ghost use Rattle.types.specs.NodeSets.{has, IsFirst, TakenFirst};
 
 use crate::node::NodeId;
+use std::marker::Model;
 
 /// A set of nodes below 64, the most that a network has: node u is in it where bit u is set.
 #[derive(Clone, Copy, PartialEq, Eq, Debug)]
@@ -81,6 +82,13 @@ impl NodeSet {
         Some(u)
     }
 
+    /// Its nodes, the lowest first.
+    pub fn iter(self) -> Members
+        ensures { result ≡ self }
+    {
+        Members { left: self }
+    }
+
     /// Its nodes and those of the other.
     pub fn or(self, other: NodeSet) -> NodeSet
         ensures { (v : ℕ) → has result v ≡ (has self v || has other v) }
@@ -100,5 +108,48 @@ impl NodeSet {
         ensures { (v : ℕ) → has result v ≡ (has self v && not (has other v)) }
     {
         NodeSet(self.0 & !other.0)
+    }
+}
+
+impl IntoIterator for NodeSet {
+    type Item = NodeId;
+
+    type IntoIter = Members;
+
+    ghost into_iter_gives = { λ set members. members ≡ set };
+
+    fn into_iter(self) -> Members {
+        self.iter()
+    }
+}
+
+/// The nodes of a set that are still to come, the lowest first.
+#[derive(Drop)]
+pub struct Members {
+    left: NodeSet,
+}
+
+impl Model for Members {
+    ghost use Rattle.types.specs.declared.node_set.NodeSet.{NodeSet};
+
+    ghost Value = { NodeSet };
+
+    ghost view = { λ members. members.left };
+
+    ghost inverse = { λ set. record { left = set } };
+}
+
+impl Iterator for Members {
+    type Item = NodeId;
+
+    ghost use Rattle.std.specs.Prelude.{count_ones};
+    ghost use Rattle.std.specs.Iterator.{at_most};
+
+    ghost next_gives = { λ old first new. TakenFirst old new first };
+
+    ghost remaining = { λ set. at_most (count_ones set.0) };
+
+    fn next(&mut self) -> Option<NodeId> {
+        self.left.take_first()
     }
 }

@@ -1,4 +1,0 @@
-// What routers say to each other.
-#![tactic(auto)]
-
-pub mod message;

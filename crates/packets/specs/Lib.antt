@@ -1,3 +1,0 @@
-pub mod Segments
-pub mod Sender
-pub mod Packets
