@@ -14,8 +14,46 @@ use Rattle.types.specs.Segments.{strip}
 
 pub table : Table
 unfolding distance_by least_over first_from path_by uses_by last_clear among came_early tell none_below all_below strip forward_by nth run
-table =
-    ((theory.worked).0, ((theory.worked).1.0, ((theory.worked).1.1.0, ((theory.worked).1.1.1.0,
-    (refl, (refl, (refl, (refl, (refl, (refl, (refl,
-    ((refl, (refl, (refl, (refl, (refl, tt))))), ((refl, (refl, (refl, tt))), ((refl, (refl, (refl, (refl, tt)))),
-    ((refl, (refl, (refl, (refl, tt)))), tt)))))))))))))))
+table = (
+  (theory.worked).0,
+  (
+    (theory.worked).1.0,
+    (
+      (theory.worked).1.1.0,
+      (
+        (theory.worked).1.1.1.0,
+        (
+          refl,
+          (
+            refl,
+            (
+              refl,
+              (
+                refl,
+                (
+                  refl,
+                  (
+                    refl,
+                    (
+                      refl,
+                      (
+                        (refl, (refl, (refl, (refl, (refl, tt))))),
+                        (
+                          (refl, (refl, (refl, tt))),
+                          (
+                            (refl, (refl, (refl, (refl, tt)))),
+                            ((refl, (refl, (refl, (refl, tt)))), tt),
+                          ),
+                        ),
+                      ),
+                    ),
+                  ),
+                ),
+              ),
+            ),
+          ),
+        ),
+      ),
+    ),
+  ),
+)
