@@ -18,7 +18,7 @@ pub same_message : (a b : Sent) → Some a ≡ Some b → a ≡ b
 same_message a b e = cc
 
 not_said : (m : Sent) → None ≡ Some m → ⊥
-not_said m e = let k : ◌≡◌ {A = ℕ} 0 1 = cc in omega arith
+not_said m e = cc
 
 pub no_message : (k : ℕ) (m : Sent) → nth [] k ≡ Some m → ⊥
 unfolding nth

@@ -21,7 +21,7 @@ pub record Sends (s : Router) (p : Packet) (v : ℕ) (q : Packet) : Type 0 where
 
 -- what is dropped is not sent
 not_sent : {A : Type 0} (x : DropReason) (v : ℕ) (q : Packet) → Drop x ≡ Send v q → A
-not_sent x v q e = let z : ◌≡◌ {A = ℕ} 0 1 = cc in absurd (omega arith)
+not_sent x v q e = absurd (cc)
 
 over : (s : Router) (p : Packet) (u v : ℕ) (q : Packet) (ss : List Segment) → 0 < s.links.cost s.me u → go_over p u ss ≡ Send v q → Sends s p v q
 over s p u v q ss near = by (eqb p.hop_limit 0) refl
@@ -88,7 +88,7 @@ round_sends s p go v q more ss = by ss
     by [] e = either (eqb s.me p.destination) e
       where
         either : (b : Bool) → cond b Deliver (towards s p go p.destination []) ≡ Send v q → Sends s p v q
-        either true e = let z : ◌≡◌ {A = ℕ} 0 1 = cc in absurd (omega arith)
+        either true e = absurd (cc)
         either false e = hop p.destination [] (entry s p.destination) refl e
     by (Node x ∷ ts) e = hop x (Node x ∷ ts) (entry s x) refl e
     by (Link a b ∷ ts) e = link a b ts e
