@@ -234,11 +234,13 @@ module _ (z : Network) (g : Lawful z) (r : LinkId) (G : ℕ → List LinkId) (σ
       ]
 
   pub switches :
-      Later z r G σ I (go_on σ w σ.came (Goes (after_switch d (transition_of r sw pe) (build z r G w (Switching sw pe))) (says d r (build z r G w (Switching sw pe)))))
+      let s = build z r G w (Switching sw pe) in
+      Later z r G σ I (go_on σ w σ.came (Goes (after_switch d (transition_of r sw pe) s) (says d r s)))
   switches = go (all_below z.n (mark d sw)) refl
     where
       go : (b : Bool) → all_below z.n (mark d sw) ≡ b →
-          Later z r G σ I (go_on σ w σ.came (Goes (cond b (build z r G w Settled) (build z r G w (Switching (mark d sw) pe))) (says d r (build z r G w (Switching sw pe)))))
+          let s' = cond b (build z r G w Settled) (build z r G w (Switching (mark d sw) pe)) in
+          Later z r G σ I (go_on σ w σ.came (Goes s' (says d r (build z r G w (Switching sw pe)))))
       go true e = switched_to Settled (λ x b _. all_at z.n (mark d sw) e x b) (λ x _. refl) refl (λ x u h. tt) tt (λ more. tt) tt
       go false e =
           switched_to (Switching (mark d sw) pe) (λ x b h. h) (λ x h. h) refl (λ x u h. h) tt

@@ -103,7 +103,7 @@ calm_step : (z : Network) (G : ℕ → List LinkId) (e : Event) (σ : System) �
 calm_step z G (Arrive k) σ C = calm_arrive z G σ C k (nth σ.said k) refl
 calm_step z G (Switch u d) σ C =
     let n : (σ.routers u).transition ≡ None =
-        elim (cases_lt u z.n) [ inl b ↦ ap (λ (s : Router). s.transition) (C.nothing u b) | inr b ↦ C.others u b ] in
+    elim (cases_lt u z.n) [ inl b ↦ ap (λ (s : Router). s.transition) (C.nothing u b) | inr b ↦ C.others u b ] in
     calm_ignores z G σ C u σ.came (switch (σ.routers u) d) (subst (λ o. Ignored (switch_in (σ.routers u) d o)) (sym n) tt)
 calm_step z G (Put q u p) σ C = record { nothing = C.nothing; others = C.others; old = C.old }
 calm_step z G (Hop q) σ C = record { nothing = C.nothing; others = C.others; old = C.old }

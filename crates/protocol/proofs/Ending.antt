@@ -1,6 +1,5 @@
 -- When nothing more happens, all that can know have switched for all destinations.
 use Rattle.std.proofs.Common.{◌≡◌, ℕ, zero, suc, ◌<◌, Bool, true, false, ◌⊎◌, List, [], ◌∷◌, is_some, Some, sym, refl, ap, ◌∙◌, subst, inl, inr, arith}
-use Rattle.std.specs.List.{flat_map as joined}
 use Rattle.std.proofs.lemmas.Bool.{both_ways, cases_Bool, and_from}
 use Rattle.protocol.specs.Hearing.{waits_for}
 use Rattle.protocol.specs.Failed.{Stale, after}
@@ -23,9 +22,9 @@ use Rattle.theory.proofs.Joins.{joins_symmetric}
 use Rattle.theory.proofs.Without.{cost_left, lawful_without}
 use Rattle.theory.proofs.Using.{first_link, one_end}
 use Rattle.theory.proofs.HopPaths.{by_next_hops, stop_end}
-use Rattle.types.specs.declared.message.Message.TheVariants as message
 use Rattle.types.specs.declared.message.Message.{Message}
 use Rattle.types.specs.declared.message.Message.TheVariants.{LinkDown}
+use Rattle.types.specs.declared.message.Message.TheVariants as message
 
 all_from : (k : ℕ) (p : ℕ → Bool) → ((u : ℕ) → u < k → p u ≡ true) → all_below k p ≡ true
 unfolding all_below

@@ -145,11 +145,14 @@ fly_hop z g r G sh f W m d B C h j few (UnderWay u c p) x = at x.0 x.2 x.6 x.7
         land (sends_on v ts bv y q) =
             subst (λ D. Fly z r (done_of sh) m d B C (suc h) (count_if blocks j) (decided s u c D)) (sym y) (K, w.R', omega arith, used blocks w.R' w.paid, bv, x.5, omega arith, q)
 
-    at : (K : ℕ) → K + h ≤ B → K ≤ p.hop_limit → Ready z r (done_of sh) m p.destination K x.1 u p.segments → Fly z r (done_of sh) m d B C (suc h) (count_if (repairs_on f (UnderWay u c p)) j) (decided (f u) u c (forward (f u) p))
+    at : (K : ℕ) → K + h ≤ B → K ≤ p.hop_limit → Ready z r (done_of sh) m p.destination K x.1 u p.segments →
+        Fly z r (done_of sh) m d B C (suc h) (count_if (repairs_on f (UnderWay u c p)) j) (decided (f u) u c (forward (f u) p))
     at zero a b q = absurd (omega (arith, ready_some q))
     at (suc K) a b q =
-        subst (λ (y : Router). Fly z r (done_of sh) m d B C (suc h) (count_if (blocked y (aim_at y.me p.destination (strip y.me p.segments))) j) (decided y u c (forward y p))) (sym (W.is u x.4))
-        (subst (λ y. Fly z r (done_of sh) m d B C (suc h) (count_if (blocked s (aim_at y p.destination (strip y p.segments))) j) (decided s u c (forward s p))) (sym (me_is z r G u (sh u)))
+        let fly = λ (y : Router) (v : ℕ).
+        Fly z r (done_of sh) m d B C (suc h) (count_if (blocked y (aim_at v p.destination (strip v p.segments))) j) (decided y u c (forward y p)) in
+        subst (λ (y : Router). fly y y.me) (sym (W.is u x.4))
+        (subst (λ v. fly s v) (sym (me_is z r G u (sh u)))
         (go K a b (ready_next z g r G (done_of sh) m few p (omega arith) u (sh u) (λ e. refl) (λ v e. W.ends u v x.4 e) W.order 1 K x.1 p.segments q)))
 
 -- one event

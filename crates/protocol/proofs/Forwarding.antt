@@ -10,7 +10,7 @@ use Rattle.theory.specs.NextHop.{next_hop, at_hop}
 use Rattle.theory.specs.Network.{joins, Network, LinkId}
 use Rattle.types.specs.Packet.{Packet}
 use Rattle.types.specs.Segments.{strip}
-use Rattle.types.specs.declared.fault.DropReason.TheVariants.{NoHopsLeft, TooManySegments}
+use Rattle.types.specs.declared.fault.DropReason.TheVariants.{NoHopsLeft}
 use Rattle.types.specs.declared.segment.Segment.{Segment}
 use Rattle.types.specs.declared.segment.Segment.TheVariants.{Node, Link}
 
@@ -37,8 +37,8 @@ module _ (z : Network) (r : LinkId) (G : ℕ → List LinkId) (u : ℕ) (S : Sha
   over_link_lem a b ts e c h pos =
       let s = build z r G u S in
       let here : begins_here s a b ≡ true =
-          and_from (eqb a s.me) (ltb 0 (s.links.cost a b)) (eq-eqb a s.me (e ∙ sym (me_is z r G u S)))
-          (lt-ltb 0 (s.links.cost a b) (omega (arith, cost_is z r G a b u S h))) in
+      and_from (eqb a s.me) (ltb 0 (s.links.cost a b)) (eq-eqb a s.me (e ∙ sym (me_is z r G u S)))
+      (lt-ltb 0 (s.links.cost a b) (omega (arith, cost_is z r G a b u S h))) in
       cond-false (eqb p.hop_limit 0) _ _ (hop_left p pos) ∙
       (cond-true (begins_here s a b) _ _ here ∙ (cond-false (known_down s a b) _ _ (down_not z r G a b u S h) ∙ go_over_lem p b ts pos))
 
@@ -51,7 +51,7 @@ towards_repair z r G u (Switching sw pe) p go aim v x ts k o e h w le =
     let s = build z r G u (Switching sw pe) in
     ap (λ y. by_hop s p go aim ts y) (entry_old z r G u aim v (Switching sw pe) o e) ∙
     (cond-true (joins r u v) (put_repair go ts (repair z r u aim)) (go_over p v ts) h ∙
-    (ap (λ y. put_repair go ts y) w ∙ cond-true (leb (length ts + 2) 5) (go (Node x.p ∷ (Link x.p x.q ∷ ts))) (Drop TooManySegments) (le-leb (length ts + 2) 5 (omega arith))))
+    (ap (λ y. put_repair go ts y) w ∙ cond-true (leb (length ts + 2) 5) _ _ (le-leb (length ts + 2) 5 (omega arith))))
 towards_repair z r G u Settled p go aim v x ts k o e h w le = absurd (both_ways true o refl)
 
 pub strip_none : (u : ℕ) → strip u [] ≡ []
@@ -79,7 +79,8 @@ forward_on k z r G u S p ss ts e =
     ap (λ m. by_segments s p (forward_by k s p) (strip m ss)) (me_is z r G u S) ∙ ap (λ l. by_segments s p (forward_by k s p) l) e
 
 -- at the destination
-pub at_dest : (z : Network) (r : LinkId) (G : ℕ → List LinkId) (u : ℕ) (S : Shape) (p : Packet) (go : List Segment → Decision) → u ≡ p.destination → by_segments (build z r G u S) p go [] ≡ Deliver
+pub at_dest : (z : Network) (r : LinkId) (G : ℕ → List LinkId) (u : ℕ) (S : Shape) (p : Packet) (go : List Segment → Decision) →
+    u ≡ p.destination → by_segments (build z r G u S) p go [] ≡ Deliver
 at_dest z r G u S p go e =
     let s = build z r G u S in
     cond-true (eqb s.me p.destination) Deliver (towards s p go p.destination []) (eq-eqb s.me p.destination (me_is z r G u S ∙ e))

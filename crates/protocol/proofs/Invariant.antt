@@ -12,9 +12,9 @@ use Rattle.protocol.proofs.Shape.{build, over, knows, Shape, Unaware, Switching,
 use Rattle.protocol.proofs.Enough.{Grows}
 use Rattle.theory.specs.NextHop.{same, next_hop, uses}
 use Rattle.theory.specs.Network.{joins, without, Network, LinkId}
-use Rattle.types.specs.declared.message.Message.TheVariants as message
 use Rattle.types.specs.declared.message.Message.{Message}
 use Rattle.types.specs.declared.message.Message.TheVariants.{LinkDown}
+use Rattle.types.specs.declared.message.Message.TheVariants as message
 use Rattle.types.specs.declared.message.Sent.{Sent}
 
 abbrev pub done_of : (ℕ → Shape) → Done

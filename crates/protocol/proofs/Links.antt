@@ -9,10 +9,10 @@ use Rattle.protocol.specs.Router.{same_link, has_link, among, Router, Reply, Ref
 use Rattle.theory.specs.Network.{joins, without, Network, Lawful, LinkId}
 use Rattle.theory.proofs.Joins.{joins_ends}
 use Rattle.theory.proofs.Without.{cost_failed}
-use Rattle.types.specs.declared.message.Message.TheVariants as message
 use Rattle.types.specs.declared.fault.Refusal.TheVariants.{NoSuchLink, NotPending}
 use Rattle.types.specs.declared.message.Message.{Message}
 use Rattle.types.specs.declared.message.Message.TheVariants.{LinkDown}
+use Rattle.types.specs.declared.message.Message.TheVariants as message
 use Rattle.types.specs.declared.message.Switched.{Switched}
 
 pub joins_self : (r : LinkId) → joins r r.a r.b ≡ true

@@ -14,9 +14,9 @@ use Rattle.protocol.proofs.Links.{joins_self, Ignored, ignored_stays}
 use Rattle.protocol.proofs.Steps.{stale_build, down_unaware, down_known, over_noted, held_later, Held, held_start, stepped, held, done_is}
 use Rattle.theory.specs.Network.{Network, LinkId}
 use Rattle.theory.proofs.Distances.{count, one_most, count_most, count_le, count_lt}
-use Rattle.types.specs.declared.message.Message.TheVariants as message
 use Rattle.types.specs.declared.message.Message.{Message}
 use Rattle.types.specs.declared.message.Message.TheVariants.{LinkDown}
+use Rattle.types.specs.declared.message.Message.TheVariants as message
 use Rattle.types.specs.declared.message.Sent.{Sent}
 use Rattle.types.specs.declared.message.Switched.{Switched}
 
@@ -188,7 +188,7 @@ module _ (z : Network) (r : LinkId) (ω : System) (F : Failed z r ω) where
       by : (M : Message) → m.message ≡ M → Honest z r H.inv.shape m.from m.to M → new_in (hear (σ.routers m.to) m.from m.message) + (z.n + 1) * unknown z l.inv.shape ≤ (z.n + 1) * unknown z H.inv.shape
       by (message.Switched n) q h =
           let y : new_in (hear (σ.routers m.to) m.from m.message) ≡ 0 =
-              ap (λ y. new_in (hear (σ.routers m.to) m.from y)) q ∙ over_silent (σ.routers m.to) m.from n in
+          ap (λ y. new_in (hear (σ.routers m.to) m.from y)) q ∙ over_silent (σ.routers m.to) m.from n in
           omega (arith, most)
       by (LinkDown x) q h =
           let S = H.inv.shape m.to in

@@ -9,7 +9,6 @@ use Rattle.protocol.specs.Packet.{towards, by_segments, forward_by, Decision, De
 use Rattle.protocol.proofs.Forwarding.{less, towards_repair, strip_none, strip_other, strip_own, strip_link, forward_on, at_dest, not_at_dest, blocked_by, open_next, towards_next, over_link_lem}
 use Rattle.protocol.proofs.Touched.{uses_hop, uses_on, left_on, steady}
 use Rattle.protocol.proofs.Shape.{build, over, knows, entry_new, entry_old, entry_steady, Shape}
-use Rattle.protocol.proofs.Changes.{keeps}
 use Rattle.protocol.proofs.Enough.{due, fits_base, Plain, plain_from, OnRepair, Fits, is_clear, is_behind, is_ahead, Ready, plain, on_repair, fits_at}
 use Rattle.theory.specs.NextHop.{next_hop, uses}
 use Rattle.theory.specs.Distance.{distance}
@@ -43,7 +42,8 @@ freely {R = R} e n = record { R' = R; paid = subst (λ (b : Bool). count_if b R 
 -- own segments are taken off: what is left
 data Bare (z : Network) (r : LinkId) (f : Done) (m : ℕ) (p : Packet) (K R u : ℕ) (ss : List Segment) : Type 0 where
   at_end : strip u ss ≡ [] → u ≡ p.destination → Bare z r f m p K R u ss
-  at_link : (a b : ℕ) (ts : List Segment) → strip u ss ≡ Link a b ∷ ts → length ts ≤ m → Plain z r f p.destination K R u (Link a b ∷ ts) → Bare z r f m p K R u ss
+  at_link : (a b : ℕ) (ts : List Segment) → strip u ss ≡ Link a b ∷ ts → length ts ≤ m → Plain z r f p.destination K R u (Link a b ∷ ts) →
+      Bare z r f m p K R u ss
   at_aim : (aim base later c : ℕ) (ts : List Segment) → strip u ss ≡ ts → length ts ≤ m → (u ≡ aim → ⊥) → distance (without r z) aim u ≡ Some c → Fits z r f aim base later K R u →
       ((g : Done) (k l v : ℕ) → is_some (distance (without r z) aim v) ≡ true → Fits z r g aim base later k l v → Plain z r g p.destination k l v ts) →
       ((G : ℕ → List LinkId) (S : Shape) (go : List Segment → Decision) → by_segments (build z r G u S) p go ts ≡ towards (build z r G u S) p go aim ts) →
@@ -54,7 +54,8 @@ bare_as e (at_end s h) = at_end (e ∙ s) h
 bare_as e (at_link a b xs s l h) = at_link a b xs (e ∙ s) l h
 bare_as e (at_aim aim base later c xs s l ne q h k t a) = at_aim aim base later c xs (e ∙ s) l ne q h k t a
 
-bare : (z : Network) (r : LinkId) (f : Done) (m : ℕ) (p : Packet) (K R u : ℕ) (ss : List Segment) → length ss ≤ m → Plain z r f p.destination K R u ss → Bare z r f m p K R u ss
+bare : (z : Network) (r : LinkId) (f : Done) (m : ℕ) (p : Packet) (K R u : ℕ) (ss : List Segment) →
+    length ss ≤ m → Plain z r f p.destination K R u ss → Bare z r f m p K R u ss
 bare z r f m p K R u [] le h = elim (cases_eq u p.destination) [
   | inl e ↦ at_end (strip_none u) e
   | inr e ↦
@@ -65,11 +66,12 @@ bare z r f m p K R u [] le h = elim (cases_eq u p.destination) [
 bare z r f m p K R u (Node x ∷ ss) le h = elim (cases_eq u x) [
   | inl e ↦
       let b = fits_base h.2 in
-      bare_as (strip_own u x ss e)
-      (bare z r f m p K R u ss (omega arith) (plain_from z r f p.destination K R u ss (subst (λ y. Reachable (without r z) p.destination y ss) (sym e) h.1) b.0 b.1))
+      let reach = subst (λ y. Reachable (without r z) p.destination y ss) (sym e) h.1 in
+      bare_as (strip_own u x ss e) (bare z r f m p K R u ss (omega arith) (plain_from z r f p.destination K R u ss reach b.0 b.1))
   | inr e ↦
       let w = some_of (distance (without r z) x u) h.0 in
-      at_aim x (enough_hops z.n (length ss)) (suc (length ss)) w.0 (Node x ∷ ss) (strip_other u x ss e) le e w.1 h.2 (λ g k l v i q. (i, h.1, q)) (λ G S go. refl) refl
+      at_aim x (enough_hops z.n (length ss)) (suc (length ss)) w.0 (Node x ∷ ss) (strip_other u x ss e) le e w.1 h.2
+      (λ g k l v i q. (i, h.1, q)) (λ G S go. refl) refl
 ]
 bare z r f m p K R u (Link a b ∷ ss) le h = at_link a b ss (strip_link u a b ss) (omega arith) h
 
@@ -135,8 +137,9 @@ module _ (z : Network) (g : Lawful z) (r : LinkId) (G : ℕ → List LinkId) (f 
 
   -- one hop towards an aim
   aim_next : (k K R aim base later c : ℕ) (ts : List Segment) → length ts ≤ m → (u ≡ aim → ⊥) → distance (without r z) aim u ≡ Some c →
-      ((h : Done) (k l v : ℕ) → is_some (distance (without r z) aim v) ≡ true → Fits z r h aim base later k l v → Plain z r h p.destination k l v ts) → aim_at u p.destination ts ≡ Some aim →
-      Fits z r f aim base later (suc K) R u → Hopped z r f m p K R u (blocked_by (build z r G u S) u p.destination ts) (towards (build z r G u S) p (forward_by (suc k) (build z r G u S) p) aim ts)
+      ((h : Done) (k l v : ℕ) → is_some (distance (without r z) aim v) ≡ true → Fits z r h aim base later k l v → Plain z r h p.destination k l v ts) →
+      aim_at u p.destination ts ≡ Some aim → Fits z r f aim base later (suc K) R u →
+      let s = build z r G u S in Hopped z r f m p K R u (blocked_by s u p.destination ts) (towards s p (forward_by (suc k) s p) aim ts)
   aim_next k K R aim base later c ts le ne left keeps at (is_clear t e l) =
       let q = not_nearer z g r aim u c left in
       let w = steady z g r aim u q.0 ne t q.1 in
@@ -211,16 +214,19 @@ module _ (z : Network) (g : Lawful z) (r : LinkId) (G : ℕ → List LinkId) (f 
       freely n.1 n.0
   ready_next k K R ss (plain le h) = pick (bare z r f m p (suc K) R u ss le h)
     where
-      pick : Bare z r f m p (suc K) R u ss → Hopped z r f m p K R u (blocked_by (build z r G u S) u p.destination (strip u ss)) (forward_by (suc (suc k)) (build z r G u S) p ss)
+      pick : Bare z r f m p (suc K) R u ss →
+          Hopped z r f m p K R u (blocked_by (build z r G u S) u p.destination (strip u ss)) (forward_by (suc (suc k)) (build z r G u S) p ss)
       pick (at_end s e) =
           freely
-          (ap (λ l. blocked_by (build z r G u S) u p.destination l) s ∙ ap (λ o. blocked (build z r G u S) o) (cond-true (eqb u p.destination) None (Some p.destination) (eq-eqb u p.destination e)))
+          (ap (λ l. blocked_by (build z r G u S) u p.destination l) s ∙
+          ap (λ o. blocked (build z r G u S) o) (cond-true (eqb u p.destination) None (Some p.destination) (eq-eqb u p.destination e)))
           (arrives e (forward_on (suc k) z r G u S p ss [] s ∙ at_dest z r G u S p (forward_by (suc k) (build z r G u S) p) e))
       pick (at_link a b ts s le q) =
           let j = link_left_lem r z a b q.1 in
           let c = link_kept r z a b q.1 in
           freely (ap (λ l. blocked_by (build z r G u S) u p.destination l) s)
-          (sends_on b ts (g.within a b c).1 (forward_on (suc k) z r G u S p ss (Link a b ∷ ts) s ∙ over_link_lem z r G u S p (forward_by (suc k) (build z r G u S) p) a b ts q.0 c j pos)
+          (sends_on b ts (g.within a b c).1
+          (forward_on (suc k) z r G u S p ss (Link a b ∷ ts) s ∙ over_link_lem z r G u S p (forward_by (suc k) (build z r G u S) p) a b ts q.0 c j pos)
           (plain le (plain_from z r f p.destination K R b ts q.2 (omega (arith, q.3)) q.4)))
       pick (at_aim aim base later c ts s le ne q ft keeps aims at) =
           let w = aim_next k K R aim base later c ts le ne q keeps at ft in

@@ -1,5 +1,5 @@
 -- The rule is kept, and what follows for the next hops in use.
-use Rattle.std.proofs.Common.{◌≡◌, ℕ, zero, suc, ◌<◌, Bool, true, false, cond, not, ◌&&◌, ltb, List, Some, None, sym, refl, ap, ◌∙◌, subst, inl, inr, arith}
+use Rattle.std.proofs.Common.{◌≡◌, ℕ, zero, suc, ◌<◌, Bool, true, false, cond, not, ◌&&◌, ltb, List, Some, None, sym, refl, ap, ◌∙◌, subst, inl, inr}
 use Rattle.std.proofs.lemmas.Bool.{both_ways, lt-ltb, cases_lt, cases_Bool, and_from, not_from_false}
 use Rattle.protocol.specs.Hearing.{waits_for}
 use Rattle.protocol.specs.Failed.{after, done_in, Failed}
@@ -42,7 +42,7 @@ switching z r ω F es u t f = elim (cases_lt u z.n) [
 ]
   where
     no_transition : None ≡ Some t → ⊥
-    no_transition e = let k : ◌≡◌ {A = ℕ} 0 1 = cc in omega arith
+    no_transition e = cc
 
     is : u < z.n → (S : Shape) → (held z r ω F es).inv.shape u ≡ S → (after r ω es).routers u ≡ build z r F.calm.gone u S
     is b S e = (held z r ω F es).inv.is u b ∙ ap (λ X. build z r F.calm.gone u X) e
@@ -54,12 +54,9 @@ switching z r ω F es u t f = elim (cases_lt u z.n) [
     go b (Unaware xs) e = absurd (no_transition (has b (Unaware xs) e))
     go b Settled e = absurd (no_transition (has b Settled e))
     go b (Switching sw pe) e =
-        let k : transition_of r sw pe ≡ t = same (transition_of r sw pe) t (has b (Switching sw pe) e) in
+        let k : transition_of r sw pe ≡ t = cc (has b (Switching sw pe) e) in
         let q = e ∙ ap (λ (x : Transition). Switching x.switched x.pending) k in
         record { shape = q; is = is b (Switching t.switched t.pending) q }
-      where
-        same : (x y : Transition) → Some x ≡ Some y → x ≡ y
-        same x y e = cc
 
 pub waits : Waits
 waits z r ω F es v d u t f =

@@ -12,9 +12,13 @@ use Rattle.types.specs.declared.fault.DropReason.TheVariants.{TooManySegments}
 use Rattle.types.specs.declared.segment.Segment.{Segment}
 use Rattle.types.specs.declared.segment.Segment.TheVariants.{Node, Link}
 
+-- a repair's two segments in front
+abbrev over : ℕ → ℕ → List Segment → List Segment
+over a b ts = Node a ∷ (Link a b ∷ ts)
+
 -- the two go on alike when a repair is put
 abbrev Alike : (List Segment → Decision) → (List Segment → Decision) → List Segment → Type 0
-Alike go on ts = length ts ≤ 3 → (a b : ℕ) → go (Node a ∷ (Link a b ∷ ts)) ≡ on (Node a ∷ (Link a b ∷ ts))
+Alike go on ts = length ts ≤ 3 → (a b : ℕ) → go (over a b ts) ≡ on (over a b ts)
 
 round_as : (s : Router) (p : Packet) (go on : List Segment → Decision) (ts : List Segment) → Alike go on ts → by_segments s p go ts ≡ by_segments s p on ts
 round_as s p go on ts h = by ts h
@@ -23,7 +27,8 @@ round_as s p go on ts h = by ts h
     put ts h None = refl
     put ts h (Some x) = few (leb (length ts + 2) 5) refl
       where
-        few : (b : Bool) → leb (length ts + 2) 5 ≡ b → cond b (go (Node x.p ∷ (Link x.p x.q ∷ ts))) (Drop TooManySegments) ≡ cond b (on (Node x.p ∷ (Link x.p x.q ∷ ts))) (Drop TooManySegments)
+        few : (b : Bool) → leb (length ts + 2) 5 ≡ b →
+            cond b (go (over x.p x.q ts)) (Drop TooManySegments) ≡ cond b (on (over x.p x.q ts)) (Drop TooManySegments)
         few true e = h (omega (arith, leb-true (length ts + 2) 5 e)) x.p x.q
         few false e = refl
 
@@ -42,24 +47,27 @@ round_as s p go on ts h = by ts h
 
 -- after a repair, the next round ends at the link segment, or has two segments more
 after_repair : (i j : ℕ) (s : Router) (p : Packet) (a b : ℕ) (ts : List Segment) →
-    (length ts ≤ 1 → (c d : ℕ) → forward_by i s p (Node c ∷ (Link c d ∷ (Node a ∷ (Link a b ∷ ts)))) ≡ forward_by j s p (Node c ∷ (Link c d ∷ (Node a ∷ (Link a b ∷ ts))))) →
-    forward_by (suc i) s p (Node a ∷ (Link a b ∷ ts)) ≡ forward_by (suc j) s p (Node a ∷ (Link a b ∷ ts))
+    (length ts ≤ 1 → (c d : ℕ) → forward_by i s p (over c d (over a b ts)) ≡ forward_by j s p (over c d (over a b ts))) →
+    forward_by (suc i) s p (over a b ts) ≡ forward_by (suc j) s p (over a b ts)
 unfolding forward_by
 after_repair i j s p a b ts h = elim (cases_eq s.me a) [
   | inl e ↦
       let off = strip_own s.me a (Link a b ∷ ts) e ∙ strip_link s.me a b ts in
       ap (by_segments s p (forward_by i s p)) off ∙ sym (ap (by_segments s p (forward_by j s p)) off)
   | inr e ↦
-      let us = Node a ∷ (Link a b ∷ ts) in
       let off = strip_other s.me a (Link a b ∷ ts) e in
-      ap (by_segments s p (forward_by i s p)) off ∙ (round_as s p (forward_by i s p) (forward_by j s p) us (λ le c d. h (omega arith) c d) ∙ sym (ap (by_segments s p (forward_by j s p)) off))
+      ap (by_segments s p (forward_by i s p)) off ∙
+      (round_as s p (forward_by i s p) (forward_by j s p) (over a b ts) (λ le c d. h (omega arith) c d) ∙
+      sym (ap (by_segments s p (forward_by j s p)) off))
 ]
 
-two_repairs : (i j : ℕ) (s : Router) (p : Packet) (a b : ℕ) (ts : List Segment) → 2 ≤ length ts → forward_by (suc i) s p (Node a ∷ (Link a b ∷ ts)) ≡ forward_by (suc j) s p (Node a ∷ (Link a b ∷ ts))
+two_repairs : (i j : ℕ) (s : Router) (p : Packet) (a b : ℕ) (ts : List Segment) → 2 ≤ length ts →
+    forward_by (suc i) s p (over a b ts) ≡ forward_by (suc j) s p (over a b ts)
 two_repairs i j s p a b ts le = after_repair i j s p a b ts (λ few. absurd (omega arith))
 
-one_repair : (i j : ℕ) (s : Router) (p : Packet) (a b : ℕ) (ts : List Segment) → forward_by (suc (suc i)) s p (Node a ∷ (Link a b ∷ ts)) ≡ forward_by (suc (suc j)) s p (Node a ∷ (Link a b ∷ ts))
-one_repair i j s p a b ts = after_repair (suc i) (suc j) s p a b ts (λ few c d. two_repairs i j s p c d (Node a ∷ (Link a b ∷ ts)) (omega arith))
+one_repair : (i j : ℕ) (s : Router) (p : Packet) (a b : ℕ) (ts : List Segment) →
+    forward_by (suc (suc i)) s p (over a b ts) ≡ forward_by (suc (suc j)) s p (over a b ts)
+one_repair i j s p a b ts = after_repair (suc i) (suc j) s p a b ts (λ few c d. two_repairs i j s p c d (over a b ts) (omega arith))
 
 pub three_rounds : ThreeRounds
 unfolding forward_by

@@ -8,8 +8,9 @@ use Rattle.protocol.proofs.Touched.{uses_on, waits_from}
 use Rattle.theory.specs.NextHop.{next_hop, uses}
 use Rattle.theory.specs.Network.{joins, without, Network, Lawful, LinkId}
 use Rattle.theory.proofs.NextHops.{next_hop_is}
-use Rattle.types.specs.declared.message.Message.TheVariants as message
+use Rattle.types.specs.declared.message.Message.{Message}
 use Rattle.types.specs.declared.message.Message.TheVariants.{LinkDown}
+use Rattle.types.specs.declared.message.Message.TheVariants as message
 use Rattle.types.specs.declared.message.Sent.{Sent}
 use Rattle.types.specs.declared.message.Switched.{Switched}
 
@@ -17,7 +18,7 @@ pub same_message : (a b : Sent) → Some a ≡ Some b → a ≡ b
 same_message a b e = cc
 
 not_said : (m : Sent) → None ≡ Some m → ⊥
-not_said m e = let k : ◌≡◌ {A = ℕ} 0 1 = cc in omega arith
+not_said m e = cc
 
 pub no_message : (k : ℕ) (m : Sent) → nth [] k ≡ Some m → ⊥
 unfolding nth
@@ -65,8 +66,11 @@ down_to r u v = record { from = u; to = v; message = LinkDown r }
 abbrev pub switched_for : LinkId → ℕ → ℕ → Switched
 switched_for r u d = record { from = u; destination = d; link = r }
 
+abbrev pub over_by : LinkId → ℕ → ℕ → Message
+over_by r u d = message.Switched (switched_for r u d)
+
 abbrev pub over_to : LinkId → ℕ → ℕ → ℕ → Sent
-over_to r u v d = record { from = u; to = v; message = message.Switched (switched_for r u d) }
+over_to r u v d = record { from = u; to = v; message = over_by r u d }
 
 -- what a router tells its neighbours when it learns of the failure
 pub tell_is : (z : Network) (r : LinkId) (u k j : ℕ) (m : Sent) → nth (tell z r u k) j ≡ Some m → (v : ℕ) × (m ≡ down_to r u v) × (v < k)

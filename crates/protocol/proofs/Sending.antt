@@ -21,12 +21,15 @@ pub record Sends (s : Router) (p : Packet) (v : ℕ) (q : Packet) : Type 0 where
 
 -- what is dropped is not sent
 not_sent : {A : Type 0} (x : DropReason) (v : ℕ) (q : Packet) → Drop x ≡ Send v q → A
-not_sent x v q e = let z : ◌≡◌ {A = ℕ} 0 1 = cc in absurd (omega arith)
+not_sent x v q e = absurd (cc)
 
 over : (s : Router) (p : Packet) (u v : ℕ) (q : Packet) (ss : List Segment) → 0 < s.links.cost s.me u → go_over p u ss ≡ Send v q → Sends s p v q
 over s p u v q ss near = by (eqb p.hop_limit 0) refl
   where
-    by : (b : Bool) → eqb p.hop_limit 0 ≡ b → cond b (Drop NoHopsLeft) (Send u (record { destination = p.destination; hop_limit = p.hop_limit - 1; segments = ss })) ≡ Send v q → Sends s p v q
+    less : Packet
+    less = record { destination = p.destination; hop_limit = p.hop_limit - 1; segments = ss }
+
+    by : (b : Bool) → eqb p.hop_limit 0 ≡ b → cond b (Drop NoHopsLeft) (Send u less) ≡ Send v q → Sends s p v q
     by true t e = not_sent NoHopsLeft v q e
     by false t e =
         let i : p.hop_limit - 1 ≡ q.hop_limit = cc in
@@ -70,30 +73,22 @@ round_sends s p go v q more ss = by ss
         either false e = over s p u v q ts (entry_near s aim u h) e
 
     link : (a b : ℕ) (ts : List Segment) → over_link s p a b ts ≡ Send v q → Sends s p v q
-    link a b ts = left (eqb p.hop_limit 0)
+    link a b ts = left (eqb p.hop_limit 0) (begins_here s a b) refl (known_down s a b)
       where
-        up : (t : Bool) → begins_here s a b ≡ true → cond t (Drop SegmentLinkDown) (go_over p b ts) ≡ Send v q → Sends s p v q
-        up true h e = not_sent SegmentLinkDown v q e
-        up false h e =
-            let k = and_parts (eqb a s.me) (ltb 0 (s.links.cost a b)) h in
+        left : (none here : Bool) → begins_here s a b ≡ here → (down : Bool) →
+            cond none (Drop NoHopsLeft) (cond here (cond down (Drop SegmentLinkDown) (go_over p b ts)) (Drop SegmentElsewhere)) ≡ Send v q → Sends s p v q
+        left true here t down e = not_sent NoHopsLeft v q e
+        left false false t down e = not_sent SegmentElsewhere v q e
+        left false true t true e = not_sent SegmentLinkDown v q e
+        left false true t false e =
+            let k = and_parts (eqb a s.me) (ltb 0 (s.links.cost a b)) t in
             over s p b v q ts (subst (λ x. 0 < s.links.cost x b) (eqb-true a s.me k.0) (ltb-true 0 (s.links.cost a b) k.1)) e
-
-        here : (t : Bool) → begins_here s a b ≡ t →
-            cond t (cond (known_down s a b) (Drop SegmentLinkDown) (go_over p b ts)) (Drop SegmentElsewhere) ≡ Send v q → Sends s p v q
-        here true h e = up (known_down s a b) h e
-        here false h e = not_sent SegmentElsewhere v q e
-
-        left : (t : Bool) →
-            cond t (Drop NoHopsLeft) (cond (begins_here s a b) (cond (known_down s a b) (Drop SegmentLinkDown) (go_over p b ts)) (Drop SegmentElsewhere)) ≡ Send v q →
-            Sends s p v q
-        left true e = not_sent NoHopsLeft v q e
-        left false e = here (begins_here s a b) refl e
 
     by : (ss : List Segment) → by_segments s p go ss ≡ Send v q → Sends s p v q
     by [] e = either (eqb s.me p.destination) e
       where
         either : (b : Bool) → cond b Deliver (towards s p go p.destination []) ≡ Send v q → Sends s p v q
-        either true e = let z : ◌≡◌ {A = ℕ} 0 1 = cc in absurd (omega arith)
+        either true e = absurd (cc)
         either false e = hop p.destination [] (entry s p.destination) refl e
     by (Node x ∷ ts) e = hop x (Node x ∷ ts) (entry s x) refl e
     by (Link a b ∷ ts) e = link a b ts e

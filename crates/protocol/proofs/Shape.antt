@@ -72,7 +72,7 @@ pub entry_steady : (z : Network) (r : LinkId) (G : ℕ → List LinkId) (u aim v
 entry_steady z r G u aim v S k = elim (cases_Bool (over S aim)) [ inl t ↦ entry_new z r G u aim v S t k.new | inr t ↦ entry_old z r G u aim v S t k.old ]
 
 -- another link is not down, and costs what it did
-pub down_not : (z : Network) (r : LinkId) (G : ℕ → List LinkId) (u v w : ℕ) (S : Shape) → 
+pub down_not : (z : Network) (r : LinkId) (G : ℕ → List LinkId) (u v w : ℕ) (S : Shape) →
     joins r u v ≡ false → known_down (build z r G w S) u v ≡ false
 down_not z r G u v w (Unaware es) h = refl
 down_not z r G u v w (Switching sw pe) h = h

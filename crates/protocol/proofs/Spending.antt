@@ -59,9 +59,11 @@ module _ (z : Network) (r : LinkId) (ω : System) (F : Failed z r ω) (P : Type 
   track_hop σ H N B D h i j (Delivered u k) E y w = w
   track_hop σ H N B D h i j (Dropped u k n) E y w = w
   track_hop σ H N B D h i j (UnderWay u k p) E y w =
-      subst (λ (y : Router). Track z r f P d x tl total C (count_if (blocked y (aim_at y.me p.destination (strip y.me p.segments))) j) (decided y u k (forward y p))) (sym (H.inv.is u y.4))
-      (subst (λ y. Track z r f P d x tl total C (count_if (blocked s (aim_at y p.destination (strip y p.segments))) j) (decided s u k (forward s p))) (sym (me_is z r F.calm.gone u (H.inv.shape u)))
-      (subst (λ (p : Packet). Track z r f P d x tl total C (count_if (blocked_by s u p.destination (strip u p.segments)) j) (decided s u k (forward s p))) (sym w.4)
+      let track = λ (y : Router) (v : ℕ) (p : Packet).
+      Track z r f P d x tl total C (count_if (blocked y (aim_at v p.destination (strip v p.segments))) j) (decided y u k (forward y p)) in
+      subst (λ (y : Router). track y y.me p) (sym (H.inv.is u y.4))
+      (subst (λ v. track s v p) (sym (me_is z r F.calm.gone u (H.inv.shape u)))
+      (subst (λ p. track s u p) (sym w.4)
       (go (rem_next z F.lawful r F.calm.gone f H.inv.order P d x tl aims few N u w.0 some (H.inv.shape u) (λ e. refl) (λ v e. H.ends u v e) w.3 w.2 w.1 w.7))))
     where
       f : Done

@@ -6,17 +6,17 @@ use Rattle.protocol.specs.Failed.{Stale, after, done_in, Calm, Failed}
 use Rattle.protocol.specs.System.{nth, go_on, arrive, moved, put_on, set_flight, step, run, notices, fails, System, Event, Arrive, Switch, Put, Hop}
 use Rattle.protocol.specs.Router.{same_link, has_link, has_switched, Router, Reply, Refused, Stays, Goes}
 use Rattle.protocol.specs.Switching.{none_below, may, after_switch, says, switch_in, switch}
-use Rattle.protocol.proofs.Said.{same_message, switched_for}
+use Rattle.protocol.proofs.Said.{same_message, switched_for, over_by}
 use Rattle.protocol.proofs.Invariant.{put_at, put_own, Honest, Noted, Taken, Newly, unchanged, Inv, Later}
 use Rattle.protocol.proofs.Shape.{transition_of, build, over, knows, switched_is, Shape, Unaware, Switching, Settled}
 use Rattle.protocol.proofs.Links.{joins_self, link_gone, link_there, still_gone, other_link, among_first, stale_ignored, Ignored, ignored_stays, stale_heard}
 use Rattle.protocol.proofs.Changes.{early_none, early_new, learned, kept, unwaited, learns, keeps, unwaits, switches}
 use Rattle.theory.specs.Network.{joins, without, Network, Lawful, LinkId}
 use Rattle.theory.proofs.Joins.{joins_ends}
-use Rattle.types.specs.declared.message.Message.TheVariants as message
-use Rattle.types.specs.declared.fault.Refusal.TheVariants.{SecondFailure, NotPending}
+use Rattle.types.specs.declared.fault.Refusal.TheVariants.{NotPending}
 use Rattle.types.specs.declared.message.Message.{Message}
 use Rattle.types.specs.declared.message.Message.TheVariants.{LinkDown}
+use Rattle.types.specs.declared.message.Message.TheVariants as message
 use Rattle.types.specs.declared.message.Sent.{Sent}
 use Rattle.types.specs.declared.message.Switched.{Switched}
 
@@ -42,44 +42,42 @@ down_unaware z r G pos w v es = cond-true (has_link z r) _ _ (link_there z r pos
 pub down_known : (z : Network) (r : LinkId) (G : ℕ → List LinkId) → 0 < z.cost r.a r.b → (w v : ℕ) (S : Shape) → knows S ≡ true → hear (build z r G w S) v (LinkDown r) ≡ Stays
 down_known z r G pos w v (Unaware es) k = absurd (both_ways false refl k)
 down_known z r G pos w v (Switching sw pe) k =
-    cond-true (has_link z r) _ _ (link_there z r pos) ∙ cond-true (same_link r r) Stays (Refused SecondFailure) (joins_self r)
+    cond-true (has_link z r) _ _ (link_there z r pos) ∙ cond-true (same_link r r) _ _ (joins_self r)
 down_known z r G pos w v Settled k = ((stale_ignored (build z r G w Settled) r (link_gone z r) v).taken (among_first r (G w))).0
 
 -- and to Switched from u
 over_reply : (z : Network) (r : LinkId) (G : ℕ → List LinkId) → 0 < z.cost r.a r.b → (w u d : ℕ) (S : Shape) → (build z r G w S).links ≡ z →
-    hear (build z r G w S) u (message.Switched (switched_for r u d)) ≡ switched_while (switched_for r u d) (build z r G w S) (build z r G w S).transition
+    hear (build z r G w S) u (over_by r u d) ≡ switched_while (switched_for r u d) (build z r G w S) (build z r G w S).transition
 over_reply z r G pos w u d S e =
     let s = build z r G w S in
     cond-true (has_link s.links r) _ _ (ap (λ (x : Network). has_link x r) e ∙ link_there z r pos) ∙
-    cond-true (eqb u u) (switched_while (switched_for r u d) s s.transition) (Refused NotPending) (eq-eqb u u refl)
+    cond-true (eqb u u) _ _ (eq-eqb u u refl)
 
 pub over_noted : (z : Network) (r : LinkId) (G : ℕ → List LinkId) → 0 < z.cost r.a r.b → (w u d : ℕ) (S : Shape) → Noted r S d u →
-    hear (build z r G w S) u (message.Switched (switched_for r u d)) ≡ Refused NotPending
+    hear (build z r G w S) u (over_by r u d) ≡ Refused NotPending
 over_noted z r G pos w u d (Unaware es) n =
     over_reply z r G pos w u d (Unaware es) refl ∙
-    cond-false (waits_for z r d w u && not (came_early r d u es)) (Goes (build z r G w (kept r u d es)) []) (Refused NotPending)
+    cond-false (waits_for z r d w u && not (came_early r d u es)) _ _
     (and_right (waits_for z r d w u) (not (came_early r d u es)) (not_from_true (came_early r d u es) n))
 over_noted z r G pos w u d (Switching sw pe) n =
-    over_reply z r G pos w u d (Switching sw pe) refl ∙
-    cond-false (same_link r r && pe d u) (Goes (build z r G w (unwaited u d sw pe)) []) (Refused NotPending) (and_right (same_link r r) (pe d u) n)
+    over_reply z r G pos w u d (Switching sw pe) refl ∙ cond-false (same_link r r && pe d u) _ _ (and_right (same_link r r) (pe d u) n)
 over_noted z r G pos w u d Settled n =
     ((stale_ignored (build z r G w Settled) r (link_gone z r) u).taken (among_first r (G w))).1 (switched_for r u d) refl
 
 -- where it waits for u
 over_early : (z : Network) (r : LinkId) (G : ℕ → List LinkId) → 0 < z.cost r.a r.b → (w u d : ℕ) (es : List Switched) →
     waits_for z r d w u ≡ true → came_early r d u es ≡ false →
-    hear (build z r G w (Unaware es)) u (message.Switched (switched_for r u d)) ≡ Goes (build z r G w (kept r u d es)) []
+    hear (build z r G w (Unaware es)) u (over_by r u d) ≡ Goes (build z r G w (kept r u d es)) []
 over_early z r G pos w u d es t n =
     over_reply z r G pos w u d (Unaware es) refl ∙
-    cond-true (waits_for z r d w u && not (came_early r d u es)) (Goes (build z r G w (kept r u d es)) []) (Refused NotPending)
+    cond-true (waits_for z r d w u && not (came_early r d u es)) _ _
     (and_from (waits_for z r d w u) (not (came_early r d u es)) t (not_from_false (came_early r d u es) n))
 
 over_pending : (z : Network) (r : LinkId) (G : ℕ → List LinkId) → 0 < z.cost r.a r.b → (w u d : ℕ) (sw : ℕ → Bool) (pe : ℕ → ℕ → Bool) → pe d u ≡ true →
-    hear (build z r G w (Switching sw pe)) u (message.Switched (switched_for r u d)) ≡ Goes (build z r G w (unwaited u d sw pe)) []
+    hear (build z r G w (Switching sw pe)) u (over_by r u d) ≡ Goes (build z r G w (unwaited u d sw pe)) []
 over_pending z r G pos w u d sw pe t =
     over_reply z r G pos w u d (Switching sw pe) refl ∙
-    cond-true (same_link r r && pe d u) (Goes (build z r G w (unwaited u d sw pe)) []) (Refused NotPending)
-    (and_from (same_link r r) (pe d u) (joins_self r) t)
+    cond-true (same_link r r && pe d u) _ _ (and_from (same_link r r) (pe d u) (joins_self r) t)
 
 module _ (z : Network) (g : Lawful z) (r : LinkId) (pos : 0 < z.cost r.a r.b) (G : ℕ → List LinkId) where
   -- a reply that changes nothing
@@ -122,16 +120,19 @@ module _ (z : Network) (g : Lawful z) (r : LinkId) (pos : 0 < z.cost r.a r.b) (G
         go Settled was = known Settled was refl
 
     -- Switched comes from u, whom w waits for
-    over_later : (u d : ℕ) → over (I.shape u) d ≡ true → waits_for z r d w u ≡ true → ((sh : ℕ → Shape) → Noted r (sh w) d u → Newly r σ came sh) → Later z r G σ I (go_on σ w came (hear (σ.routers w) u (message.Switched (switched_for r u d))))
-    over_later u d o t nw = subst (λ (s : Router). Later z r G σ I (go_on σ w came (hear s u (message.Switched (switched_for r u d))))) (sym (I.is w bw)) (go (I.shape w) refl)
+    over_later : (u d : ℕ) → over (I.shape u) d ≡ true → waits_for z r d w u ≡ true → ((sh : ℕ → Shape) → Noted r (sh w) d u → Newly r σ came sh) →
+        Later z r G σ I (go_on σ w came (hear (σ.routers w) u (over_by r u d)))
+    over_later u d o t nw = subst (λ (s : Router). Later z r G σ I (go_on σ w came (hear s u (over_by r u d)))) (sym (I.is w bw)) (go (I.shape w) refl)
       where
         put : (S : Shape) → Noted r S d u → Newly r σ came (put_at w S I.shape)
         put S n = nw (put_at w S I.shape) (subst (λ X. Noted r X d u) (sym (put_own w S I.shape)) n)
 
-        noted : (S : Shape) → I.shape w ≡ S → Noted r S d u → Later z r G σ I (go_on σ w came (hear (build z r G w S) u (message.Switched (switched_for r u d))))
-        noted S was n = ignores σ I w came cs (hear (build z r G w S) u (message.Switched (switched_for r u d))) (subst Ignored (sym (over_noted z r G pos w u d S n)) tt) (nw I.shape (subst (λ X. Noted r X d u) (sym was) n))
+        noted : (S : Shape) → I.shape w ≡ S → Noted r S d u → Later z r G σ I (go_on σ w came (hear (build z r G w S) u (over_by r u d)))
+        noted S was n =
+            ignores σ I w came cs (hear (build z r G w S) u (over_by r u d)) (subst Ignored (sym (over_noted z r G pos w u d S n)) tt)
+            (nw I.shape (subst (λ X. Noted r X d u) (sym was) n))
 
-        go : (S : Shape) → I.shape w ≡ S → Later z r G σ I (go_on σ w came (hear (build z r G w S) u (message.Switched (switched_for r u d))))
+        go : (S : Shape) → I.shape w ≡ S → Later z r G σ I (go_on σ w came (hear (build z r G w S) u (over_by r u d)))
         go (Unaware es) was = elim (cases_Bool (came_early r d u es)) [
           | inl n ↦ noted (Unaware es) was n
           | inr n ↦
