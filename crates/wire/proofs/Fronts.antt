@@ -1,10 +1,9 @@
--- What stands in front, and what follows. Assumes nothing.
-use Rattle.std.proofs.Common.{◌≡◌, ℕ, ◌≤◌, List, [], ◌∷◌, length, get_or, drop, None, Ok, Err, Option, Result, refl, rules}
-use Rattle.std.specs.Result.{result_map_both}
-use Rattle.links.specs.declared.fault.Fault.{Fault}
-use Rattle.links.specs.declared.wire.ReadError.{ReadError}
-use Rattle.links.specs.Unread.{placed, ended}
-use Rattle.wire.specs.Pieces.{Front, whole, judged, piece, read_as}
+-- What stands in front, and what follows.
+use Rattle.std.proofs.Common.{◌≡◌, ℕ, ◌≤◌, List, [], ◌∷◌, length, get_or, drop, None, Some, Ok, Err, Option, Result, sym, refl, ap, ◌∙◌, rules}
+use Rattle.types.specs.declared.fault.ReadFault.{ReadFault}
+use Rattle.wire.specs.declared.error.ReadError.{ReadError}
+use Rattle.wire.specs.Cursor.{placed, ended}
+use Rattle.wire.specs.Cursor.{Front, whole, unless, judged, piece, read_as}
 
 -- all bytes are there
 
@@ -18,15 +17,31 @@ five bs h = search rules
 
 -- a piece that is taken has no fault
 
-pub judged_ok : {A : Type 0} (fault : A → Option Fault) (r : Front A) (p : A × List ℕ) → judged fault r ≡ Ok p → (r ≡ Ok p) × (fault p.0 ≡ None)
+pub judged_ok : {A : Type 0} (fault : A → Option ReadFault) (r : Front A) (p : A × List ℕ) → judged fault r ≡ Ok p → (r ≡ Ok p) × (fault p.0 ≡ None)
 judged_ok fault r p e = search rules
 
 -- a piece that is refused, or followed by the rest
 
-pub placed_as : {A B : Type 0} (g : A → B) (i : ℕ) (r : Result A Fault) (w : Result B Fault) (v : Result A ReadError) → result_map_both g (λ f. f) r ≡ w → v ≡ placed i r → read_as g v ≡ placed i w
-placed_as g i r w v h e = search rules
+-- what is answered of a piece that its reader gives, or does not give
 
-pub placed_ok : {A : Type 0} (i : ℕ) (r : Result A Fault) (x : A) → Ok x ≡ placed i r → Ok x ≡ r
+pub nothing_placed : {A : Type 0} (fault : A → Option ReadFault) (i : ℕ) (r : Front A) (f : ReadFault) (e : ReadError) → r ≡ Err f → e ≡ record { fault = f; at = i } → Err e ≡ placed i (judged fault r)
+nothing_placed fault i r f e h k = ap Err k ∙ sym (ap (λ x. placed i (judged fault x)) h)
+
+pub fault_placed : {A : Type 0} (fault : A → Option ReadFault) (i : ℕ) (r : Front A) (p : A × List ℕ) (e : ReadError) → r ≡ Ok p → Err e ≡ placed i (unless (fault p.0) (tt {0})) → Err e ≡ placed i (judged fault r)
+fault_placed fault i r p e h k = by (fault p.0) k ∙ sym (ap (λ x. placed i (judged fault x)) h)
+  where
+    by : (o : Option ReadFault) → Err e ≡ placed i (unless o (tt {0})) → Err e ≡ placed i (unless o p)
+    by (Some f) q = let h : e ≡ record { fault = f; at = i } = cc in ap Err h
+    by None q = cc
+
+pub fine_placed : {A : Type 0} (fault : A → Option ReadFault) (i : ℕ) (r : Front A) (p : A × List ℕ) → r ≡ Ok p → Ok tt ≡ placed i (unless (fault p.0) (tt {0})) → Ok p ≡ placed i (judged fault r)
+fine_placed fault i r p h k = by (fault p.0) k ∙ sym (ap (λ x. placed i (judged fault x)) h)
+  where
+    by : (o : Option ReadFault) → Ok tt ≡ placed i (unless o (tt {0})) → Ok p ≡ placed i (unless o p)
+    by (Some f) q = cc
+    by None q = refl
+
+pub placed_ok : {A : Type 0} (i : ℕ) (r : Result A ReadFault) (x : A) → Ok x ≡ placed i r → Ok x ≡ r
 placed_ok i r x e = search rules
 
 pub piece_refused : {A B : Type 0} (i : ℕ) (r : Front A) (more : A → List ℕ → Result B ReadError) (e : ReadError) → Err e ≡ placed i r → Err e ≡ piece i r more

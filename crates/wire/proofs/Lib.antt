@@ -1,3 +1,4 @@
+pub mod Bytes
 pub mod Fronts
 pub mod Reading
 pub mod Headers

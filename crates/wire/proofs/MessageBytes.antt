@@ -1,14 +1,15 @@
--- What is read of a message was written so. Assumes nothing.
+-- What is read of a message was written so.
 use Rattle.std.proofs.Common.{◌≡◌, ℕ, List, [], ◌++◌, None, Ok, sym, ap, ◌∙◌, append-nil, rules}
-use Rattle.protocol.specs.Router.{Message, LinkDown, Switched}
-use Rattle.links.specs.Unread.{placed}
-use Rattle.wire.specs.Pieces.{judged}
-use Rattle.wire.specs.Messages.{ordered, bytes_of, message_bytes, message_at, message_fault}
+use Rattle.types.specs.declared.message.Message.{Message}
+use Rattle.types.specs.declared.message.Message.TheVariants.{LinkDown, Switched}
+use Rattle.wire.specs.Cursor.{placed}
+use Rattle.wire.specs.Cursor.{judged}
+use Rattle.wire.specs.Message.{ordered, bytes_of, message_bytes, message_at, message_fault}
 use Rattle.wire.proofs.Fronts.{judged_ok, placed_ok}
 
 fine_ordered : (n : ℕ) (m : Message) → message_fault n m ≡ None → ordered m ≡ m
 fine_ordered n (LinkDown l) e = search rules
-fine_ordered n (Switched u d l) e = search rules
+fine_ordered n (Switched m) e = search rules
 
 message_spelled : (bs : List ℕ) (p : Message × List ℕ) → message_at bs ≡ Ok p → (bytes_of p.0 ++ p.1) ≡ bs
 message_spelled bs p e = search rules

@@ -1,30 +1,32 @@
--- What is written of a packet reads back as what it was, and what is read was written so. Assumes nothing.
+-- What is written of a packet reads back as what it was, and what is read was written so.
 use Rattle.std.proofs.Common.{◌≡◌, ℕ, zero, suc, ◌-◌, ◌≤◌, List, [], ◌∷◌, ◌++◌, length, get_or, drop, None, Ok, sym, refl, ap, ◌∙◌, subst, arith, rules}
 use Rattle.std.specs.List.{flat_map}
 use Rattle.std.proofs.lemmas.Nat.{div-mul-add, mod-mul-add}
-use Rattle.links.proofs.RoundTrip.{Bytes, two_bytes}
-use Rattle.protocol.specs.Packet.{Segment, NodeSeg, LinkSeg, Packet}
-use Rattle.wire.specs.Pieces.{read_as, whole, judged, piece}
-use Rattle.wire.specs.Packets.{segment_bytes, packet_bytes, SegmentLawful, SegmentsLawful, most, PacketLawful, segment_at, segment_fault, segments_in, header_of, header_fault, with_header, packet_in}
-use Rattle.wire.specs.declared.origin.Origin.{Origin}
+use Rattle.wire.proofs.Bytes.{Bytes, two_bytes}
+use Rattle.types.specs.Packet.{Packet}
+use Rattle.types.specs.declared.segment.Segment.{Segment}
+use Rattle.types.specs.declared.segment.Segment.TheVariants.{Node, Link}
+use Rattle.wire.specs.Cursor.{read_as, whole, judged, piece}
+use Rattle.wire.specs.Packet.{segment_bytes, packet_bytes, SegmentLawful, SegmentsLawful, most, PacketLawful, segment_at, segment_fault, segments_in, header_of, header_fault, with_header, packet_in}
+use Rattle.wire.specs.declared.packet.Origin.{Origin}
 use Rattle.wire.proofs.Fronts.{whole_ok, five, judged_ok, piece_ok, ended_ok, read_as_ok}
 use Rattle.wire.proofs.Headers.{header_parts, header_fine, header_read}
 
 -- a segment without a fault is lawful, and the other way round
 
 fault_lawful : (n : ℕ) (s : Segment) → segment_fault n s ≡ None → SegmentLawful n s
-fault_lawful n (NodeSeg x) e = search rules
-fault_lawful n (LinkSeg a b) e = search rules
+fault_lawful n (Node x) e = search rules
+fault_lawful n (Link a b) e = search rules
 
 lawful_fault : (n : ℕ) (s : Segment) → SegmentLawful n s → segment_fault n s ≡ None
-lawful_fault n (NodeSeg x) h = search rules
-lawful_fault n (LinkSeg a b) h = search rules
+lawful_fault n (Node x) h = search rules
+lawful_fault n (Link a b) h = search rules
 
 -- the bytes and the segment that they spell
 
 segment_at_lem : (s : Segment) (bs : List ℕ) → segment_at (segment_bytes s ++ bs) ≡ Ok (s, bs)
-segment_at_lem (NodeSeg x) bs = search rules
-segment_at_lem (LinkSeg a b) bs = search rules
+segment_at_lem (Node x) bs = search rules
+segment_at_lem (Link a b) bs = search rules
 
 segment_spelled : (bs : List ℕ) (p : Segment × List ℕ) → segment_at bs ≡ Ok p → (segment_bytes p.0 ++ p.1) ≡ bs
 segment_spelled bs p e = search rules
@@ -67,7 +69,7 @@ packet_back o n p h =
     let bs = packet_bytes p in
     header_read o n bs (omega arith) (header_fine o n (header_of bs) refl h.within h.few) ∙
     (ap (read_as (with_header (header_of bs))) (segments_read n (length bs) p.segments h.segments) ∙
-    ap (λ l. Ok (record { dest = p.dest; hop_limit = l; segments = p.segments })) (two_bytes p.hop_limit))
+    ap (λ l. Ok (record { destination = p.destination; hop_limit = l; segments = p.segments })) (two_bytes p.hop_limit))
 
 header_spelled : (n : ℕ) (bs : List ℕ) (ss : List Segment) → Bytes bs → 5 ≤ length bs → get_or bs 0 0 ≡ 2 → Spelled (get_or bs 4 0) n (drop 5 bs) ss → packet_bytes (with_header (header_of bs) ss) ≡ bs
 header_spelled n bs ss h l k s =

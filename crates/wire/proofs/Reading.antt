@@ -1,11 +1,12 @@
--- The clauses of segments_in, by what the code tests. Assumes nothing.
+-- The clauses of segments_in, by what the code tests.
 use Rattle.std.proofs.Common.{◌≡◌, ℕ, zero, suc, ◌+◌, ◌-◌, ◌<◌, List, [], ◌∷◌, ◌++◌, length, Some, Ok, Err, Result, refl, ap, ◌∙◌, ap₂, append_assoc, append-nil, arith, rules}
-use Rattle.links.specs.declared.wire.ReadError.{ReadError}
-use Rattle.protocol.specs.Packet.{Segment, Packet}
-use Rattle.packets.specs.Packets.{with_segments, longer}
-use Rattle.links.specs.Unread.{placed, ended}
-use Rattle.wire.specs.Pieces.{read_as, judged}
-use Rattle.wire.specs.Packets.{segment_at, segment_fault, segments_in}
+use Rattle.wire.specs.declared.error.ReadError.{ReadError}
+use Rattle.types.specs.Packet.{Packet}
+use Rattle.types.specs.declared.segment.Segment.{Segment}
+use Rattle.types.specs.Packet.{with_segments, longer}
+use Rattle.wire.specs.Cursor.{placed, ended}
+use Rattle.wire.specs.Cursor.{read_as, judged}
+use Rattle.wire.specs.Packet.{segment_at, segment_fault, segments_in}
 use Rattle.wire.proofs.Fronts.{piece_refused, piece_taken}
 
 -- the packet with more segments behind its own

@@ -1,4 +1,4 @@
-pub mod Pieces
-pub mod Kinds
-pub mod Packets
-pub mod Messages
+pub mod Cursor
+pub mod Kind
+pub mod Message
+pub mod Packet

@@ -1,11 +1,13 @@
 ghost use Rattle.std.specs.Prelude.{◌≡◌};
-ghost use Rattle.wire.specs.Kinds.{kind_in};
+ghost use Rattle.wire.specs.Kind.{kind_in};
 
-use links::fault::Fault;
-use links::unread::Unread;
-use links::wire::{LINKS, ReadError};
+use types::ReadFault;
+use crate::cursor::Cursor;
+use crate::error::ReadError;
 
 // The first byte of each kind; that of a list of links stands in `links`.
+pub(crate) const LINKS: u8 = 1;
+
 pub(crate) const PACKET: u8 = 2;
 
 pub(crate) const LINK_DOWN: u8 = 3;
@@ -29,12 +31,12 @@ pub fn kind_of(bytes: &[u8]) -> Result<Kind, ReadError>
     ensures { result ≡ kind_in bytes.now }
 {
     let kind = match bytes {
-        [] => Err(Fault::Truncated),
+        [] => Err(ReadFault::Truncated),
         [LINKS, ..] => Ok(Kind::Links),
         [PACKET, ..] => Ok(Kind::Packet),
         [LINK_DOWN, ..] => Ok(Kind::LinkDown),
         [SWITCHED, ..] => Ok(Kind::Switched),
-        _ => Err(Fault::UnknownKind),
+        _ => Err(ReadFault::UnknownKind),
     };
-    Unread::new(bytes).piece(kind)
+    Cursor::new(bytes).piece(kind)
 }

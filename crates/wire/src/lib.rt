@@ -1,9 +1,14 @@
-// The bytes of packets and of the messages between routers: read, and written.
+//! The bytes of lists of links, of packets and of the messages between routers: a parse and an emit each.
 #![tactic(auto)]
 
+mod cursor;
+pub mod error;
 pub mod kind;
 pub mod message;
-pub mod origin;
 pub mod packet;
-mod pieces;
 mod segment;
+
+pub use error::{LinksError, ReadError};
+pub use kind::{Kind, kind_of};
+pub use message::{emit_message, parse_message};
+pub use packet::{Origin, emit_packet, parse_packet};
