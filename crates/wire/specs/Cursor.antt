@@ -1,5 +1,5 @@
 -- Reading piece by piece, up to the first fault.
-use Rattle.std.specs.Prelude.{ℕ, if◌then◌else◌, List, length, drop, Some, None, Ok, Err, Option, Result, ◌==◌, nat_lt}
+use Rattle.std.specs.Prelude.{ℕ, zero, suc, ◌-◌, if◌then◌else◌, List, [], ◌∷◌, length, drop, Some, None, Ok, Err, Option, Result, ◌==◌, nat_lt}
 use Rattle.std.specs.Result.{result_map_both}
 use Rattle.types.specs.declared.fault.ReadFault.{ReadFault}
 use Rattle.types.specs.declared.fault.ReadFault.TheVariants.{Truncated, TrailingBytes}
@@ -42,3 +42,9 @@ judged fault (Err f) = Err f
 abbrev pub piece : {A B : Type 0} → ℕ → Front A → (A → List ℕ → Result B ReadError) → Result B ReadError
 piece i (Ok p) more = more p.0 p.1
 piece i (Err f) more = refused f i
+
+-- k pieces, each judged by the last one before it, if there is one, and then the end; of all the bytes, which are m, bs are left
+unfoldable pub pieces_in : {A : Type 0} → (List ℕ → Front A) → (Option A → A → Option ReadFault) → ℕ → Option A → ℕ → List ℕ → Result (List A) ReadError
+pieces_in at fault zero last m bs = ended (m - length bs) bs []
+pieces_in at fault (suc k) last m bs =
+    piece (m - length bs) (judged (fault last) (at bs)) (λ x rest. read_as (λ xs. x ∷ xs) (pieces_in at fault k (Some x) m rest))

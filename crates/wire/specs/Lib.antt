@@ -1,4 +1,7 @@
 pub mod Cursor
-pub mod Kind
-pub mod Message
-pub mod Packet
+pub mod Frames
+pub mod Kinds
+pub mod Lists
+pub mod Messages
+pub mod Packets
+pub use Rattle.types.specs.Packet

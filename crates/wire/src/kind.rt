@@ -1,5 +1,5 @@
 ghost use Rattle.std.specs.Prelude.{◌≡◌};
-ghost use Rattle.wire.specs.Kind.{kind_in};
+ghost use Rattle.wire.specs.Kinds.{kind_in};
 
 use types::ReadFault;
 use crate::cursor::Cursor;

@@ -1,8 +1,8 @@
 // The bytes of a message: 3 and a link's two nodes, the lower one first; or 4, who has switched, the destination, and
 // the failed link's two nodes.
-ghost use Rattle.std.specs.Prelude.{◌≡◌, ℕ, ◌++◌, IfOk, IsErr, MatchOption, OnErr, OnOk, Ok};
+ghost use Rattle.std.specs.Prelude.{◌≡◌, ℕ, ◌++◌, Err, IfOk, IsErr, MatchOption, OnErr, OnOk, Ok};
 ghost use Rattle.wire.specs.Cursor.{unless};
-ghost use Rattle.wire.specs.Message.{MessageLawful, ordered, message_bytes, message_at, link_fault, message_fault, message_in};
+ghost use Rattle.wire.specs.Messages.{MessageLawful, ordered, message_bytes, message_at, link_fault, message_fault, message_in};
 
 use crate::cursor::Cursor;
 use crate::error::ReadError;

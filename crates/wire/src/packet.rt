@@ -1,9 +1,9 @@
 // The bytes of a packet: 2, its destination, its hop limit (2, the high byte first), the number of its segments, and
 // the segments.
-ghost use Rattle.std.specs.Prelude.{◌≡◌, ℕ, ◌+◌, ◌≤◌, ◌++◌, length, IfOk, OnOk, OnErr, Ok};
+ghost use Rattle.std.specs.Prelude.{◌≡◌, ℕ, ◌+◌, ◌≤◌, ◌++◌, List, None, length, IfOk, OnOk, OnErr, Ok};
 ghost use Rattle.types.specs.Packet.{packet_of, with_segments};
 ghost use Rattle.wire.specs.Cursor.{read_as, unless};
-ghost use Rattle.wire.specs.Packet.{Behind, PacketLawful, packet_bytes, segments_in, header_fault, packet_in};
+ghost use Rattle.wire.specs.Packets.{PacketLawful, packet_bytes, segments_in, header_fault, packet_in};
 ghost use Rattle.wire.specs.declared.packet.Origin.{Origin as Source};
 
 use crate::cursor::Cursor;
@@ -45,7 +45,7 @@ fn check_header(
     destination: NodeId,
     count: u8,
 ) -> Result<(), ReadFault>
-    ensures { (h : ℕ) → result ≡ unless (header_fault origin nodes (record { kind = kind; destination = destination; hop_limit = h; count = count })) tt }
+    ensures { result ≡ unless (header_fault origin nodes kind destination count) tt }
 {
     if kind != PACKET {
         return Err(ReadFault::UnknownKind);
@@ -62,7 +62,11 @@ fn check_header(
 /// of the bytes.
 fn parse_segments(cursor: Cursor, nodes: u8, count: u8, packet: Packet) -> Result<Packet, ReadError>
     requires { length (packet_of packet).segments + count ≤ 5 }
-    ensures { read_as packet_of result ≡ read_as (λ ss. with_segments (packet_of packet) ((packet_of packet).segments ++ ss)) (segments_in count nodes cursor.entry.size cursor.entry.bytes.now) }
+    ensures {
+        let p = packet_of packet in
+        let read = segments_in nodes count None cursor.entry.size cursor.entry.bytes.now in
+        read_as packet_of result ≡ read_as (λ ss. with_segments p (p.segments ++ ss)) read
+    }
 {
     let mut longer = packet;
     let mut rest = cursor;
@@ -84,7 +88,7 @@ fn parse_segments(cursor: Cursor, nodes: u8, count: u8, packet: Packet) -> Resul
 // Where memory is wanting, some bytes may stand there; `emit_packet` takes them off again.
 fn begin(packet: &Packet, out: &mut Vec<u8>) -> Result<(), AllocError>
     ensures ok { OnOk result (out.new.items ≡ out.old.items ++ packet_bytes (packet_of packet.now)) }
-    ensures err { OnErr result (Behind out.old.items out.new.items) }
+    ensures err { OnErr result ((more : List ℕ) × (out.new.items ≡ out.old.items ++ more)) }
 {
     let [high, low] = packet.hop_limit().to_be_bytes();
     let destination = packet.destination().number();

@@ -1,7 +1,7 @@
-ghost use Rattle.std.specs.Prelude.{◌≡◌, ◌++◌, IsErr, MatchOption, OnErr, OnOk};
+ghost use Rattle.std.specs.Prelude.{◌≡◌, ℕ, ◌++◌, Err, IsErr, List, MatchOption, OnErr, OnOk, Ok};
 ghost use Rattle.std.specs.List.{flat_map};
 ghost use Rattle.wire.specs.Cursor.{unless};
-ghost use Rattle.wire.specs.Packet.{Behind, segment_at, segment_bytes, segment_fault};
+ghost use Rattle.wire.specs.Packets.{segment_at, segment_bytes, segment_fault};
 
 use std::alloc::AllocError;
 use types::{LinkId, NodeId, ReadFault, Segment};
@@ -61,7 +61,7 @@ fn emit_segment(segment: &Segment, out: &mut Vec<u8>) -> Result<(), AllocError>
 /// Where memory is wanting, some of them may stand there.
 pub(crate) fn emit_segments(segments: &[Segment], out: &mut Vec<u8>) -> Result<(), AllocError>
     ensures ok { OnOk result (out.new.items ≡ out.old.items ++ flat_map segment_bytes segments.now) }
-    ensures err { OnErr result (Behind out.old.items out.new.items) }
+    ensures err { OnErr result ((more : List ℕ) × (out.new.items ≡ out.old.items ++ more)) }
 {
     for segment in segments {
         emit_segment(segment, out)?;

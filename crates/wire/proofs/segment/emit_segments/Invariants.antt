@@ -1,6 +1,6 @@
 use Rattle.std.proofs.Common.{◌≡◌, ◌++◌, take, vec_items}
 use Rattle.std.specs.List.{flat_map}
-use Rattle.wire.specs.Packet.{segment_bytes}
+use Rattle.wire.specs.Packets.{segment_bytes}
 use Rattle.wire.proofs.segment.emit_segments.Given as goal
 
 abbrev pub invariant-loop-segment : goal.invariant-loop-segment

@@ -1,5 +1,5 @@
 -- The bytes of a packet, and how they are read: the header, each segment, the end.
-use Rattle.std.specs.Prelude.{◌≡◌, ℕ, zero, suc, ◌+◌, ◌-◌, ◌*◌, ◌/◌, ◌%◌, ◌<◌, ◌≤◌, if◌then◌else◌, ◌&&◌, List, [], ◌∷◌, ◌++◌, length, Some, None, Err, Option, Result, ◌==◌, ◌≢◌, nat_le, nat_lt, slice_index}
+use Rattle.std.specs.Prelude.{ℕ, ◌+◌, ◌*◌, ◌/◌, ◌%◌, ◌<◌, ◌≤◌, if◌then◌else◌, ◌&&◌, List, [], ◌∷◌, length, Some, None, Err, Option, Result, ◌==◌, ◌≢◌, nat_le, nat_lt, slice_index}
 use Rattle.std.specs.List.{flat_map}
 use Rattle.types.specs.Packet.{Packet}
 use Rattle.types.specs.declared.fault.ReadFault.{ReadFault}
@@ -7,7 +7,7 @@ use Rattle.types.specs.declared.fault.ReadFault.TheVariants.{UnknownKind, Trunca
 use Rattle.types.specs.declared.segment.Segment.{Segment}
 use Rattle.types.specs.declared.segment.Segment.TheVariants.{Node, Link}
 use Rattle.wire.specs.declared.error.ReadError.{ReadError}
-use Rattle.wire.specs.Cursor.{read_as, Front, whole, judged, piece, ended}
+use Rattle.wire.specs.Cursor.{read_as, Front, whole, judged, piece, pieces_in}
 use Rattle.wire.specs.declared.packet.Origin.{Origin}
 use Rattle.wire.specs.declared.packet.Origin.TheVariants.{Sender, Neighbour}
 
@@ -57,10 +57,9 @@ segment_fault n (Node x) = if nat_lt x n then None else Some NodeOutOfRange
 segment_fault n (Link from to) =
     if nat_lt from n && nat_lt to n then (if from == to then Some SelfLink else None) else Some NodeOutOfRange
 
--- k segments, and then the end; of all the bytes, which are m, bs are left
-unfoldable pub segments_in : ℕ → ℕ → ℕ → List ℕ → Result (List Segment) ReadError
-segments_in zero n m bs = ended (m - length bs) bs []
-segments_in (suc k) n m bs = piece (m - length bs) (judged (segment_fault n) (segment_at bs)) (λ s rest. read_as (λ ss. s ∷ ss) (segments_in k n m rest))
+-- k segments behind the last one, and then the end; of all the bytes, which are m, bs are left
+abbrev pub segments_in : ℕ → ℕ → Option Segment → ℕ → List ℕ → Result (List Segment) ReadError
+segments_in n k last m bs = pieces_in segment_at (λ _ s. segment_fault n s) k last m bs
 
 pub record Header : Type 0 where
   pub kind : ℕ
@@ -69,13 +68,18 @@ pub record Header : Type 0 where
   pub count : ℕ
 
 abbrev pub header_of : List ℕ → Header
-header_of bs = record { kind = slice_index bs 0; destination = slice_index bs 1; hop_limit = slice_index bs 2 * 256 + slice_index bs 3; count = slice_index bs 4 }
+header_of bs = record {
+  kind = slice_index bs 0;
+  destination = slice_index bs 1;
+  hop_limit = slice_index bs 2 * 256 + slice_index bs 3;
+  count = slice_index bs 4;
+}
 
-abbrev pub header_fault : Origin → ℕ → Header → Option ReadFault
-header_fault from n h =
-    if h.kind == 2 then
-        (if nat_lt h.destination n then
-            (if nat_le h.count (most from) then None else Some (too_many from))
+abbrev pub header_fault : Origin → ℕ → (kind destination count : ℕ) → Option ReadFault
+header_fault from n kind destination count =
+    if kind == 2 then
+        (if nat_lt destination n then
+            (if nat_le count (most from) then None else Some (too_many from))
         else Some NodeOutOfRange)
     else Some UnknownKind
 
@@ -83,8 +87,6 @@ abbrev pub with_header : Header → List Segment → Packet
 with_header h ss = record { destination = h.destination; hop_limit = h.hop_limit; segments = ss }
 
 abbrev pub packet_in : Origin → ℕ → List ℕ → Result Packet ReadError
-packet_in from n bs = piece 0 (judged (header_fault from n) (whole 5 bs (header_of bs))) (λ h rest. read_as (with_header h) (segments_in h.count n (length bs) rest))
-
--- what memory that was wanting may leave: some bytes behind those that were there before
-abbrev pub Behind : List ℕ → List ℕ → Type 0
-Behind before after = (more : List ℕ) × (after ≡ before ++ more)
+packet_in from n bs =
+    piece 0 (judged (λ h. header_fault from n h.kind h.destination h.count) (whole 5 bs (header_of bs)))
+    (λ h rest. read_as (with_header h) (segments_in n h.count None (length bs) rest))

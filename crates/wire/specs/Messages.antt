@@ -31,15 +31,19 @@ abbrev pub MessageLawful : ℕ → Message → Type 0
 MessageLawful n (LinkDown l) = LinkLawful n l
 MessageLawful n (Switched m) = (m.from < n) × (m.destination < n) × LinkLawful n m.link
 
--- all fields of a message
+-- the message in front: 3 and a link's two nodes; or 4, who has switched, the destination, and a link's two nodes
 abbrev pub message_at : List ℕ → Front Message
 message_at bs =
     if length bs == 0 then Err Truncated
     else if slice_index bs 0 == 3 then whole 3 bs (LinkDown (record { a = slice_index bs 1; b = slice_index bs 2 }))
-    else if slice_index bs 0 == 4 then whole 5 bs (Switched (record { from = slice_index bs 1; destination = slice_index bs 2; link = record { a = slice_index bs 3; b = slice_index bs 4 } }))
+    else if slice_index bs 0 == 4 then whole 5 bs (Switched (record {
+      from = slice_index bs 1;
+      destination = slice_index bs 2;
+      link = record { a = slice_index bs 3; b = slice_index bs 4 };
+    }))
     else Err UnknownKind
 
--- why they are refused among n nodes: the lowest number that applies
+-- why it is refused among n nodes: the lowest number that applies
 abbrev pub link_fault : ℕ → LinkId → Option ReadFault
 link_fault n l =
     if nat_lt l.a n && nat_lt l.b n then
@@ -54,4 +58,5 @@ message_fault n (Switched m) =
     if nat_lt m.from n && nat_lt m.destination n then link_fault n m.link else Some NodeOutOfRange
 
 abbrev pub message_in : ℕ → List ℕ → Result Message ReadError
-message_in n bs = piece 0 (judged (message_fault n) (message_at bs)) (λ m rest. ended (length bs - length rest) rest m)
+message_in n bs =
+    piece 0 (judged (message_fault n) (message_at bs)) (λ m rest. ended (length bs - length rest) rest m)
