@@ -36,23 +36,31 @@ impl<'a> Cursor<'a> {
 
     /// A fault of the next piece, at the byte where it begins.
     pub(crate) fn refuse(self, fault: ReadFault) -> ReadError
-        ensures { result ≡ record { fault = fault; at = self.entry.size - length self.entry.bytes.now } }
+        ensures {
+            let at = self.entry.size - length self.entry.bytes.now in
+            result ≡ record { fault = fault; at = at }
+        }
     {
         let at = self.size.saturating_sub(self.bytes.len());
         ReadError { fault, at }
     }
 
-    /// The next piece, or its fault.
-    pub(crate) fn piece<T>(self, found: Result<T, ReadFault>) -> Result<T, ReadError>
-        ensures { result ≡ placed (self.entry.size - length self.entry.bytes.now) found }
+    /// The next piece, as it was checked: its fault, if it has one.
+    pub(crate) fn piece(self, checked: Result<(), ReadFault>) -> Result<(), ReadError>
+        ensures { result ≡ placed (self.entry.size - length self.entry.bytes.now) checked }
     {
-        let at = self.size.saturating_sub(self.bytes.len());
-        found.map_err(|fault| ReadError { fault, at })
+        if let Err(fault) = checked {
+            return Err(self.refuse(fault));
+        }
+        Ok(())
     }
 
     /// The end: nothing is left over.
     pub(crate) fn end(self) -> Result<(), ReadError>
-        ensures { result ≡ ended (self.entry.size - length self.entry.bytes.now) self.entry.bytes.now tt }
+        ensures {
+            let bytes = self.entry.bytes.now in
+            result ≡ ended (self.entry.size - length bytes) bytes tt
+        }
     {
         if !self.bytes.is_empty() {
             return Err(self.refuse(ReadFault::TrailingBytes));

@@ -1,5 +1,4 @@
-ghost use Rattle.std.specs.Prelude.{◌≡◌, ◌+◌, ◌<◌, ◌∷◌, ◌++◌, length, MatchOption, OnErr, OnOk};
-ghost use Rattle.std.specs.Iterator.{at_most};
+ghost use Rattle.std.specs.Prelude.{◌≡◌, ◌+◌, ◌<◌, ◌∷◌, ◌++◌, IfNone, IfSome, OnErr, OnOk, length};
 ghost use Rattle.types.specs.Packet.{packet_of};
 ghost use Rattle.wire.specs.Frames.{InFront, size_in};
 ghost use Rattle.wire.specs.Messages.{message_bytes};
@@ -10,7 +9,7 @@ use crate::packet::emit_packet;
 use std::alloc::AllocError;
 use types::{Message, NodeId, Packet};
 
-/// What comes to a router: a message, and the node that it comes from.
+/// What comes to a router: the bytes of a message, and the node that it comes from.
 #[derive(Clone, Copy)]
 pub struct Frame<'a> {
     pub from: NodeId,
@@ -20,7 +19,8 @@ pub struct Frame<'a> {
 /// The frame in front: the node that it comes from (1 byte), the length of its message (2), and the message; and the bytes
 /// after it. None where it is not whole.
 pub fn next_frame(bytes: &[u8]) -> Option<(Frame, &[u8])>
-    ensures { MatchOption result (length bytes.now < 3 + size_in bytes.now) (λ p. InFront bytes.now p.0.from p.0.message.now p.1.now) }
+    ensures none { IfNone result (length bytes.now < 3 + size_in bytes.now) }
+    ensures some { IfSome result (λ p. InFront bytes.now p.0.from p.0.message.now p.1.now) }
 {
     let [from, high, low, rest @ ..] = bytes else {
         return None;
@@ -38,11 +38,15 @@ pub struct Frames<'a> {
 }
 
 impl<'a> Iterator for Frames<'a> {
+    ghost use Rattle.std.specs.Prelude.{length};
+    ghost use Rattle.std.specs.Iterator.{at_most};
+    ghost use Rattle.wire.specs.Frames.{TakesFrame};
+
     type Item = Frame<'a>;
 
-    ghost next_gives = { λ s r t. MatchOption r ((length s.rest.now < 3 + size_in s.rest.now) × (t ≡ s)) (λ f. InFront s.rest.now f.from f.message.now t.rest.now) };
+    ghost next_gives = { TakesFrame };
 
-    ghost remaining = { λ s. at_most (length s.rest.now) };
+    ghost remaining = { λ frames. at_most (length frames.rest.now) };
 
     fn next(&mut self) -> Option<Frame<'a>> {
         let Some((frame, rest)) = next_frame(self.rest) else {
@@ -55,15 +59,17 @@ impl<'a> Iterator for Frames<'a> {
 
 /// Puts a packet behind what is written already, after the neighbour that it goes to.
 pub fn emit_packet_to(to: NodeId, packet: &Packet, out: &mut Vec<u8>) -> Result<(), AllocError>
-    ensures ok { OnOk result (out.new.items ≡ out.old.items ++ to ∷ packet_bytes (packet_of packet.now)) }
+    ensures ok {
+        OnOk result (out.new.items ≡ out.old.items ++ to ∷ packet_bytes (packet_of packet.now))
+    }
     ensures err { OnErr result (out.new.items ≡ out.old.items) }
 {
     out.push(to.number())?;
-    let written = emit_packet(packet, out);
-    if written.is_err() {
+    let emitted = emit_packet(packet, out);
+    if emitted.is_err() {
         out.pop();
     }
-    written
+    emitted
 }
 
 /// Puts a message behind what is written already, after the neighbour that it goes to.
@@ -72,9 +78,9 @@ pub fn emit_message_to(to: NodeId, message: &Message, out: &mut Vec<u8>) -> Resu
     ensures err { OnErr result (out.new.items ≡ out.old.items) }
 {
     out.push(to.number())?;
-    let written = emit_message(message, out);
-    if written.is_err() {
+    let emitted = emit_message(message, out);
+    if emitted.is_err() {
         out.pop();
     }
-    written
+    emitted
 }

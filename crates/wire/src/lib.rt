@@ -1,4 +1,4 @@
-//! The bytes of lists of links, of packets and of the messages between routers: a parse and an emit each.
+//! The bytes of lists of links, packets, messages and frames: a parse and an emit each.
 #![tactic(auto)]
 
 mod cursor;

@@ -1,6 +1,6 @@
-// The bytes of a list of links: 1, the number of nodes, the number of links (2), and for each link the lower node,
-// the higher node and the cost (2), in rising order; the high byte comes first.
-ghost use Rattle.std.specs.Prelude.{◌≡◌, None, IfErr, IfOk, IsErrOf, MatchOption, MatchResult, Ok, Err};
+//! The bytes of a list of links: 1, the number of nodes, the number of links (2), and for each link the lower node,
+//! the higher node and the cost (2), in rising order; the high byte comes first.
+ghost use Rattle.std.specs.Prelude.{◌≡◌, Err, IfErr, IfOk, IsErrOf, MatchOption, MatchResult, None, Ok};
 ghost use Rattle.std.specs.Option.{option_copied};
 ghost use Rattle.wire.specs.Cursor.{unless};
 ghost use Rattle.wire.specs.Lists.{IfRefused, header_fault, link_at, link_bytes, link_fault, links_in, list_bytes, list_in, listing_of};
@@ -61,9 +61,12 @@ fn parse_rest(heap: Global, cursor: Cursor, nodes: u8, count: u16) -> Result<Vec
     Ok(links)
 }
 
-/// The next link and the bytes after it.
+/// The link in front, and the bytes after it.
 fn next_link(bytes: &[u8]) -> Option<(Link, &[u8])>
-    ensures { MatchOption result (IsErrOf (link_at bytes.now) ReadFault.Truncated) (λ p. link_at bytes.now ≡ Ok (p.0, p.1.now)) }
+    ensures {
+        let front = link_at bytes.now in
+        MatchOption result (IsErrOf front ReadFault.Truncated) (λ p. front ≡ Ok (p.0, p.1.now))
+    }
 {
     let [a, b, high, low, rest @ ..] = bytes else {
         return None;
@@ -95,7 +98,7 @@ fn check_link(nodes: u8, last: Option<&Link>, link: &Link) -> Result<(), ReadFau
     }
 }
 
-/// Writes a list of links as bytes, which read back as the same.
+/// The bytes of a list of links, which read back as the same one.
 pub fn emit_links(heap: Global, topology: &Topology) -> Result<Vec<u8>, AllocError>
     ensures value { IfOk result (λ v. v.items ≡ list_bytes (listing_of topology.now)) }
     ensures back { IfOk result (λ v. list_in v.items ≡ Ok (listing_of topology.now)) }

@@ -1,5 +1,5 @@
-// The bytes of a message: 3 and a link's two nodes, the lower one first; or 4, who has switched, the destination, and
-// the failed link's two nodes.
+//! The bytes of a message: 3 and a link's two nodes, the lower one first; or 4, who has switched, the destination, and
+//! the failed link's two nodes.
 ghost use Rattle.std.specs.Prelude.{◌≡◌, ℕ, ◌++◌, Err, IfOk, IsErr, MatchOption, OnErr, OnOk, Ok};
 ghost use Rattle.wire.specs.Cursor.{unless};
 ghost use Rattle.wire.specs.Messages.{MessageLawful, ordered, message_bytes, message_at, link_fault, message_fault, message_in};
@@ -25,21 +25,33 @@ pub fn parse_message(bytes: &[u8], nodes: u8) -> Result<Message, ReadError>
     Ok(message)
 }
 
-/// The message in front, and the bytes after it, if there is one.
+/// The message in front, and the bytes after it.
 fn next_message(bytes: &[u8]) -> Option<(Message, &[u8])>
-    ensures { MatchOption result (IsErr (message_at bytes.now)) (λ p. message_at bytes.now ≡ Ok (p.0, p.1.now)) }
+    ensures {
+        let front = message_at bytes.now in
+        MatchOption result (IsErr front) (λ p. front ≡ Ok (p.0, p.1.now))
+    }
 {
     match bytes {
-        [LINK_DOWN, a, b, rest @ ..] => Some((Message::LinkDown(link(*a, *b)), rest)),
+        [LINK_DOWN, a, b, rest @ ..] => Some((Message::LinkDown(link_of(*a, *b)), rest)),
         [SWITCHED, from, destination, a, b, rest @ ..] => {
             let switched = Switched {
                 from: NodeId(*from),
                 destination: NodeId(*destination),
-                link: link(*a, *b),
+                link: link_of(*a, *b),
             };
             Some((Message::Switched(switched), rest))
         }
         _ => None,
+    }
+}
+
+fn link_of(a: u8, b: u8) -> LinkId
+    ensures { result ≡ record { a = a; b = b } }
+{
+    LinkId {
+        a: NodeId(a),
+        b: NodeId(b),
     }
 }
 
@@ -50,15 +62,6 @@ fn no_message(bytes: &[u8]) -> ReadFault
     match bytes {
         [] | [LINK_DOWN, ..] | [SWITCHED, ..] => ReadFault::Truncated,
         _ => ReadFault::UnknownKind,
-    }
-}
-
-fn link(a: u8, b: u8) -> LinkId
-    ensures { result ≡ record { a = a; b = b } }
-{
-    LinkId {
-        a: NodeId(a),
-        b: NodeId(b),
     }
 }
 
@@ -91,8 +94,16 @@ fn check_link(nodes: u8, link: LinkId) -> Result<(), ReadFault>
 pub fn emit_message(message: &Message, out: &mut Vec<u8>) -> Result<(), AllocError>
     ensures ok { OnOk result (out.new.items ≡ out.old.items ++ message_bytes message.now) }
     ensures err { OnErr result (out.new.items ≡ out.old.items) }
-    ensures back { (n : ℕ) → MessageLawful n message.now → message_in n (message_bytes message.now) ≡ Ok message.now }
-    ensures turned { (n : ℕ) → MessageLawful n (ordered message.now) → message_in n (message_bytes message.now) ≡ Ok (ordered message.now) }
+
+    // What is written of a lawful message reads as that message, and of one that is lawful once its link is turned, as that.
+    ensures back {
+        (n : ℕ) → MessageLawful n message.now →
+        message_in n (message_bytes message.now) ≡ Ok message.now
+    }
+    ensures turned {
+        let turned = ordered message.now in
+        (n : ℕ) → MessageLawful n turned → message_in n (message_bytes message.now) ≡ Ok turned
+    }
 {
     match message {
         Message::LinkDown(link) => {

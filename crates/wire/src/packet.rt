@@ -1,6 +1,6 @@
-// The bytes of a packet: 2, its destination, its hop limit (2, the high byte first), the number of its segments, and
-// the segments.
-ghost use Rattle.std.specs.Prelude.{◌≡◌, ℕ, ◌+◌, ◌≤◌, ◌++◌, List, None, length, IfOk, OnOk, OnErr, Ok};
+//! The bytes of a packet: 2, its destination, its hop limit (2, the high byte first), the number of its segments, and
+//! the segments.
+ghost use Rattle.std.specs.Prelude.{◌≡◌, ℕ, ◌+◌, ◌≤◌, ◌++◌, IfOk, List, None, OnErr, OnOk, Ok, length};
 ghost use Rattle.types.specs.Packet.{packet_of, with_segments};
 ghost use Rattle.wire.specs.Cursor.{read_as, unless};
 ghost use Rattle.wire.specs.Packets.{PacketLawful, packet_bytes, segments_in, header_fault, packet_in};
@@ -37,7 +37,6 @@ pub fn parse_packet(bytes: &[u8], nodes: u8, origin: Origin) -> Result<Packet, R
     parse_segments(cursor.after(rest), nodes, *count, packet)
 }
 
-/// The rules for a header.
 fn check_header(
     origin: Origin,
     nodes: u8,
@@ -58,8 +57,8 @@ fn check_header(
     }
 }
 
-/// So many segments, put behind those of the packet, and then the end. Those that are not yet read are handed on as the rest
-/// of the bytes.
+/// So many segments, put behind those of the packet, and then the end. Those that are not yet read are handed on as the
+/// rest of the bytes.
 fn parse_segments(cursor: Cursor, nodes: u8, count: u8, packet: Packet) -> Result<Packet, ReadError>
     requires { length (packet_of packet).segments + count ≤ 5 }
     ensures {
@@ -85,27 +84,30 @@ fn parse_segments(cursor: Cursor, nodes: u8, count: u8, packet: Packet) -> Resul
     Ok(longer)
 }
 
-// Where memory is wanting, some bytes may stand there; `emit_packet` takes them off again.
-fn begin(packet: &Packet, out: &mut Vec<u8>) -> Result<(), AllocError>
+/// Puts a packet behind what is written already. It reads back as the same one.
+pub fn emit_packet(packet: &Packet, out: &mut Vec<u8>) -> Result<(), AllocError>
     ensures ok { OnOk result (out.new.items ≡ out.old.items ++ packet_bytes (packet_of packet.now)) }
-    ensures err { OnErr result ((more : List ℕ) × (out.new.items ≡ out.old.items ++ more)) }
+    ensures err { OnErr result (out.new.items ≡ out.old.items) }
+    ensures back {
+        let p = packet_of packet.now in
+        (origin : Source) (n : ℕ) → PacketLawful origin n p → packet_in origin n (packet_bytes p) ≡ Ok p
+    }
+{
+    let before = out.len();
+    let emitted = emit_parts(packet, out);
+    if emitted.is_err() {
+        out.truncate(before);
+    }
+    emitted
+}
+
+/// Where memory is wanting, some bytes may stand there.
+fn emit_parts(packet: &Packet, out: &mut Vec<u8>) -> Result<(), AllocError>
+    ensures ok { OnOk result (out.new.items ≡ out.old.items ++ packet_bytes (packet_of packet.now)) }
+    ensures err { OnErr result ((some : List ℕ) × (out.new.items ≡ out.old.items ++ some)) }
 {
     let [high, low] = packet.hop_limit().to_be_bytes();
     let destination = packet.destination().number();
     out.extend_from_slice(&[PACKET, destination, high, low, packet.count()])?;
     emit_segments(packet.segments(), out)
-}
-
-/// Puts a packet behind what is written already. It reads back as the same one.
-pub fn emit_packet(packet: &Packet, out: &mut Vec<u8>) -> Result<(), AllocError>
-    ensures ok { OnOk result (out.new.items ≡ out.old.items ++ packet_bytes (packet_of packet.now)) }
-    ensures err { OnErr result (out.new.items ≡ out.old.items) }
-    ensures back { (origin : Source) (n : ℕ) → PacketLawful origin n (packet_of packet.now) → packet_in origin n (packet_bytes (packet_of packet.now)) ≡ Ok (packet_of packet.now) }
-{
-    let before = out.len();
-    let written = begin(packet, out);
-    if written.is_err() {
-        out.truncate(before);
-    }
-    written
 }

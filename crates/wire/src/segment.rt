@@ -1,3 +1,4 @@
+//! The bytes of a segment: 0 and a node, or 1 and the two nodes of a link.
 ghost use Rattle.std.specs.Prelude.{◌≡◌, ℕ, ◌++◌, Err, IsErr, List, MatchOption, OnErr, OnOk, Ok};
 ghost use Rattle.std.specs.List.{flat_map};
 ghost use Rattle.wire.specs.Cursor.{unless};
@@ -11,9 +12,12 @@ const NODE: u8 = 0;
 
 const LINK: u8 = 1;
 
-/// The segment in front, 0 and a node or 1 and the two nodes of a link, and the bytes after it, if there is one.
+/// The segment in front, and the bytes after it.
 pub(crate) fn next_segment(bytes: &[u8]) -> Option<(Segment, &[u8])>
-    ensures { MatchOption result (IsErr (segment_at bytes.now)) (λ p. segment_at bytes.now ≡ Ok (p.0, p.1.now)) }
+    ensures {
+        let front = segment_at bytes.now in
+        MatchOption result (IsErr front) (λ p. front ≡ Ok (p.0, p.1.now))
+    }
 {
     match bytes {
         [NODE, node, rest @ ..] => Some((Segment::Node(NodeId(*node)), rest)),
@@ -48,6 +52,17 @@ pub(crate) fn check_segment(nodes: u8, segment: &Segment) -> Result<(), ReadFaul
     }
 }
 
+/// Puts segments behind what is written already. Where memory is wanting, some of them may stand there.
+pub(crate) fn emit_segments(segments: &[Segment], out: &mut Vec<u8>) -> Result<(), AllocError>
+    ensures ok { OnOk result (out.new.items ≡ out.old.items ++ flat_map segment_bytes segments.now) }
+    ensures err { OnErr result ((some : List ℕ) × (out.new.items ≡ out.old.items ++ some)) }
+{
+    for segment in segments {
+        emit_segment(segment, out)?;
+    }
+    Ok(())
+}
+
 fn emit_segment(segment: &Segment, out: &mut Vec<u8>) -> Result<(), AllocError>
     ensures ok { OnOk result (out.new.items ≡ out.old.items ++ segment_bytes segment.now) }
     ensures err { OnErr result (out.new.items ≡ out.old.items) }
@@ -56,15 +71,4 @@ fn emit_segment(segment: &Segment, out: &mut Vec<u8>) -> Result<(), AllocError>
         Segment::Node(node) => out.extend_from_slice(&[NODE, node.number()]),
         Segment::Link { from, to } => out.extend_from_slice(&[LINK, from.number(), to.number()]),
     }
-}
-
-/// Where memory is wanting, some of them may stand there.
-pub(crate) fn emit_segments(segments: &[Segment], out: &mut Vec<u8>) -> Result<(), AllocError>
-    ensures ok { OnOk result (out.new.items ≡ out.old.items ++ flat_map segment_bytes segments.now) }
-    ensures err { OnErr result ((more : List ℕ) × (out.new.items ≡ out.old.items ++ more)) }
-{
-    for segment in segments {
-        emit_segment(segment, out)?;
-    }
-    Ok(())
 }
