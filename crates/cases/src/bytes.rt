@@ -1,16 +1,8 @@
 // Packets and messages in bytes, in a network of four nodes: what is read, what is refused and where, and what is written.
 use crate::refused::Refused;
-use links::fault::Fault;
-use links::link::LinkId;
-use links::node::NodeId;
-use links::wire::ReadError;
-use messages::message::{Message, Switched};
-use packets::segment::Segment;
 use std::test::Fail;
-use wire::kind::{Kind, kind_of};
-use wire::message::{read_message, write_message};
-use wire::origin::Origin;
-use wire::packet::{read_packet, write_packet};
+use types::{LinkId, Message, NodeId, ReadFault, Segment, Switched};
+use wire::{Kind, Origin, ReadError, emit_message, emit_packet, kind_of, parse_message, parse_packet};
 
 const NODES: u8 = 4;
 
@@ -19,121 +11,121 @@ const BAD_FROM_NEIGHBOUR: [Refused; 20] = [
     Refused {
         name: "cut after 0 bytes",
         bytes: &[],
-        fault: Fault::Truncated,
+        fault: ReadFault::Truncated,
         at: 0,
     },
     Refused {
         name: "cut after 1 bytes",
         bytes: &[2],
-        fault: Fault::Truncated,
+        fault: ReadFault::Truncated,
         at: 0,
     },
     Refused {
         name: "cut after 2 bytes",
         bytes: &[2, 3],
-        fault: Fault::Truncated,
+        fault: ReadFault::Truncated,
         at: 0,
     },
     Refused {
         name: "cut after 3 bytes",
         bytes: &[2, 3, 1],
-        fault: Fault::Truncated,
+        fault: ReadFault::Truncated,
         at: 0,
     },
     Refused {
         name: "cut after 4 bytes",
         bytes: &[2, 3, 1, 0],
-        fault: Fault::Truncated,
+        fault: ReadFault::Truncated,
         at: 0,
     },
     Refused {
         name: "cut after 5 bytes",
         bytes: &[2, 3, 1, 0, 2],
-        fault: Fault::Truncated,
+        fault: ReadFault::Truncated,
         at: 5,
     },
     Refused {
         name: "cut after 6 bytes",
         bytes: &[2, 3, 1, 0, 2, 0],
-        fault: Fault::Truncated,
+        fault: ReadFault::Truncated,
         at: 5,
     },
     Refused {
         name: "cut after 7 bytes",
         bytes: &[2, 3, 1, 0, 2, 0, 1],
-        fault: Fault::Truncated,
+        fault: ReadFault::Truncated,
         at: 7,
     },
     Refused {
         name: "cut after 8 bytes",
         bytes: &[2, 3, 1, 0, 2, 0, 1, 1],
-        fault: Fault::Truncated,
+        fault: ReadFault::Truncated,
         at: 7,
     },
     Refused {
         name: "cut after 9 bytes",
         bytes: &[2, 3, 1, 0, 2, 0, 1, 1, 0],
-        fault: Fault::Truncated,
+        fault: ReadFault::Truncated,
         at: 7,
     },
     Refused {
         name: "another kind",
         bytes: &[3, 0, 0, 1, 0],
-        fault: Fault::UnknownKind,
+        fault: ReadFault::UnknownKind,
         at: 0,
     },
     Refused {
         name: "unknown kind before a bad destination",
         bytes: &[9, 4, 0, 1, 9],
-        fault: Fault::UnknownKind,
+        fault: ReadFault::UnknownKind,
         at: 0,
     },
     Refused {
         name: "destination not below n",
         bytes: &[2, 4, 0, 1, 0],
-        fault: Fault::NodeOutOfRange,
+        fault: ReadFault::NodeOutOfRange,
         at: 0,
     },
     Refused {
         name: "bad destination before too many segments",
         bytes: &[2, 4, 0, 1, 6],
-        fault: Fault::NodeOutOfRange,
+        fault: ReadFault::NodeOutOfRange,
         at: 0,
     },
     Refused {
         name: "six segments from a neighbour, though all are cut",
         bytes: &[2, 1, 0, 1, 6],
-        fault: Fault::TooManySegments,
+        fault: ReadFault::TooManySegments,
         at: 0,
     },
     Refused {
         name: "unknown kind of segment",
         bytes: &[2, 1, 0, 1, 1, 2, 0],
-        fault: Fault::UnknownKind,
+        fault: ReadFault::UnknownKind,
         at: 5,
     },
     Refused {
         name: "node segment not below n",
         bytes: &[2, 1, 0, 1, 1, 0, 4],
-        fault: Fault::NodeOutOfRange,
+        fault: ReadFault::NodeOutOfRange,
         at: 5,
     },
     Refused {
         name: "link segment not below n, and to itself",
         bytes: &[2, 1, 0, 1, 1, 1, 4, 4],
-        fault: Fault::NodeOutOfRange,
+        fault: ReadFault::NodeOutOfRange,
         at: 5,
     },
     Refused {
         name: "link segment to itself",
         bytes: &[2, 1, 0, 1, 2, 0, 3, 1, 2, 2],
-        fault: Fault::SelfLink,
+        fault: ReadFault::SelfLink,
         at: 7,
     },
     Refused {
         name: "the first fault wins",
         bytes: &[2, 1, 0, 1, 2, 1, 2, 2, 9],
-        fault: Fault::SelfLink,
+        fault: ReadFault::SelfLink,
         at: 5,
     },
 ];
@@ -143,13 +135,13 @@ const BAD_FROM_SENDER: [Refused; 2] = [
     Refused {
         name: "four segments of a sender's",
         bytes: &[2, 1, 0, 1, 4, 0, 0, 0, 0, 0, 0, 0, 0],
-        fault: Fault::TooManySenderSegments,
+        fault: ReadFault::TooManySenderSegments,
         at: 0,
     },
     Refused {
         name: "bytes left over",
         bytes: &[2, 1, 0, 1, 1, 0, 3, 0],
-        fault: Fault::TrailingBytes,
+        fault: ReadFault::TrailingBytes,
         at: 7,
     },
 ];
@@ -157,11 +149,11 @@ const BAD_FROM_SENDER: [Refused; 2] = [
 #[test]
 fn refused_packets(rt: HostRuntime) -> Result<(), Fail> {
     for case in BAD_FROM_NEIGHBOUR.iter() {
-        let read = read_packet(case.bytes, NODES, Origin::Neighbour);
+        let read = parse_packet(case.bytes, NODES, Origin::Neighbour);
         assert_eq!(rt; read.err(), case.error(), "{}", case.name);
     }
     for case in BAD_FROM_SENDER.iter() {
-        let read = read_packet(case.bytes, NODES, Origin::Sender);
+        let read = parse_packet(case.bytes, NODES, Origin::Sender);
         assert_eq!(rt; read.err(), case.error(), "{}", case.name);
     }
     Ok(())
@@ -238,16 +230,16 @@ const GOOD_PACKETS: [GoodPacket; 4] = [
 #[test]
 fn packets_there_and_back(rt: HostRuntime) -> Result<(), Fail> {
     for case in GOOD_PACKETS.iter() {
-        let Ok(packet) = read_packet(case.bytes, NODES, case.origin) else {
+        let Ok(packet) = parse_packet(case.bytes, NODES, case.origin) else {
             return Err(Fail::new(case.name));
         };
-        let fields = (packet.destination().0, packet.hop_limit());
+        let fields = (packet.destination().number(), packet.hop_limit());
         assert_eq!(rt; fields, (case.destination, case.hop_limit), "{}", case.name);
         assert_eq!(rt; packet.segments(), case.segments, "{}", case.name);
         let mut out = [7, 7].to_vec(rt.alloc())?;
         let mut expected = out.clone()?;
         expected.extend_from_slice(case.bytes)?;
-        write_packet(&packet, &mut out)?;
+        emit_packet(&packet, &mut out)?;
         assert_eq!(rt; out.as_slice(), expected.as_slice(), "{}", case.name);
     }
     Ok(())
@@ -258,73 +250,73 @@ const BAD_MESSAGES: [Refused; 12] = [
     Refused {
         name: "empty",
         bytes: &[],
-        fault: Fault::Truncated,
+        fault: ReadFault::Truncated,
         at: 0,
     },
     Refused {
         name: "a packet",
         bytes: &[2, 0, 1],
-        fault: Fault::UnknownKind,
+        fault: ReadFault::UnknownKind,
         at: 0,
     },
     Refused {
         name: "cut LinkDown",
         bytes: &[3, 0],
-        fault: Fault::Truncated,
+        fault: ReadFault::Truncated,
         at: 0,
     },
     Refused {
         name: "cut Switched, though its first node is bad",
         bytes: &[4, 9, 1, 0],
-        fault: Fault::Truncated,
+        fault: ReadFault::Truncated,
         at: 0,
     },
     Refused {
         name: "link not below n",
         bytes: &[3, 0, 4],
-        fault: Fault::NodeOutOfRange,
+        fault: ReadFault::NodeOutOfRange,
         at: 0,
     },
     Refused {
         name: "from not below n",
         bytes: &[4, 4, 0, 0, 1],
-        fault: Fault::NodeOutOfRange,
+        fault: ReadFault::NodeOutOfRange,
         at: 0,
     },
     Refused {
         name: "destination not below n",
         bytes: &[4, 0, 4, 0, 1],
-        fault: Fault::NodeOutOfRange,
+        fault: ReadFault::NodeOutOfRange,
         at: 0,
     },
     Refused {
         name: "not below n before the higher node first",
         bytes: &[3, 4, 1],
-        fault: Fault::NodeOutOfRange,
+        fault: ReadFault::NodeOutOfRange,
         at: 0,
     },
     Refused {
         name: "higher node first",
         bytes: &[4, 0, 1, 3, 2],
-        fault: Fault::HigherFirst,
+        fault: ReadFault::HigherFirst,
         at: 0,
     },
     Refused {
         name: "link from a node to itself",
         bytes: &[3, 2, 2],
-        fault: Fault::SelfLink,
+        fault: ReadFault::SelfLink,
         at: 0,
     },
     Refused {
         name: "bytes left over behind LinkDown",
         bytes: &[3, 0, 1, 0],
-        fault: Fault::TrailingBytes,
+        fault: ReadFault::TrailingBytes,
         at: 3,
     },
     Refused {
         name: "bytes left over behind Switched",
         bytes: &[4, 0, 1, 2, 3, 9, 9],
-        fault: Fault::TrailingBytes,
+        fault: ReadFault::TrailingBytes,
         at: 5,
     },
 ];
@@ -332,7 +324,7 @@ const BAD_MESSAGES: [Refused; 12] = [
 #[test]
 fn refused_messages(rt: HostRuntime) -> Result<(), Fail> {
     for case in BAD_MESSAGES.iter() {
-        let read = read_message(case.bytes, NODES);
+        let read = parse_message(case.bytes, NODES);
         assert_eq!(rt; read.err(), case.error(), "{}", case.name);
     }
     Ok(())
@@ -361,28 +353,28 @@ const WRITTEN: [(Message, &[u8]); 2] = [
 fn messages_there_and_back(rt: HostRuntime) -> Result<(), Fail> {
     for (message, bytes) in WRITTEN.iter() {
         let mut out = Vec::new(rt.alloc());
-        write_message(*message, &mut out)?;
+        emit_message(message, &mut out)?;
         assert_eq!(rt; out.as_slice(), *bytes);
         let mut again = Vec::new(rt.alloc());
-        write_message(read_message(bytes, NODES)?, &mut again)?;
+        emit_message(&parse_message(bytes, NODES)?, &mut again)?;
         assert_eq!(rt; again.as_slice(), *bytes);
     }
     Ok(())
 }
 
 // The refusal of a frame at its first byte.
-fn refused(fault: Fault) -> Result<Kind, ReadError> {
+fn refused(fault: ReadFault) -> Result<Kind, ReadError> {
     Err(ReadError { fault, at: 0 })
 }
 
 // The kind of a frame by its first byte.
 #[test]
 fn kinds(rt: HostRuntime) {
-    assert_eq!(rt; kind_of(&[]), refused(Fault::Truncated));
-    assert_eq!(rt; kind_of(&[0]), refused(Fault::UnknownKind));
+    assert_eq!(rt; kind_of(&[]), refused(ReadFault::Truncated));
+    assert_eq!(rt; kind_of(&[0]), refused(ReadFault::UnknownKind));
     assert_eq!(rt; kind_of(&[1]), Ok(Kind::Links));
     assert_eq!(rt; kind_of(&[2, 9]), Ok(Kind::Packet));
     assert_eq!(rt; kind_of(&[3]), Ok(Kind::LinkDown));
     assert_eq!(rt; kind_of(&[4]), Ok(Kind::Switched));
-    assert_eq!(rt; kind_of(&[5]), refused(Fault::UnknownKind));
+    assert_eq!(rt; kind_of(&[5]), refused(ReadFault::UnknownKind));
 }

@@ -1,21 +1,16 @@
 // What becomes of a packet at one router, in a whole network and beside a failed link.
-use crate::networks::{FAILED, PAIR, RING, segments_of};
-use forwarding::forwarder::Forwarder;
-use forwarding::outcome::Outcome;
-use links::fault::Fault;
-use links::node::NodeId;
-use links::topology::Topology;
-use packets::packet::Packet;
-use packets::segment::Segment;
+use crate::networks::{FAILED, PAIR, RING, router_of, segments_of};
+use router::Outcome;
 use std::alloc::Global;
 use std::test::Fail;
+use types::{DropReason, Message, NodeId, Packet, Segment};
 
 // What becomes of a packet at a router: where it is sent, to which neighbour, and how many segments it then has.
 #[derive(Clone, Copy, PartialEq, Eq, Debug)]
 enum Fate {
     Delivered,
     Sent { to: NodeId, segments: u8 },
-    Dropped(Fault),
+    Dropped(DropReason),
 }
 
 impl From<Outcome> for Fate {
@@ -26,7 +21,7 @@ impl From<Outcome> for Fate {
                 to,
                 segments: packet.count(),
             },
-            Outcome::Dropped(fault) => Fate::Dropped(fault),
+            Outcome::Dropped(reason) => Fate::Dropped(reason),
         }
     }
 }
@@ -129,7 +124,7 @@ const CASES: [Case; 9] = [
             from: NodeId(0),
             to: NodeId(1),
         }],
-        fate: Fate::Dropped(Fault::SegmentLinkDown),
+        fate: Fate::Dropped(DropReason::SegmentLinkDown),
     },
     Case {
         name: "no repair",
@@ -138,7 +133,7 @@ const CASES: [Case; 9] = [
         down: true,
         destination: 1,
         segments: &[],
-        fate: Fate::Dropped(Fault::NoRepair),
+        fate: Fate::Dropped(DropReason::NoRepair),
     },
     Case {
         name: "no such node",
@@ -147,45 +142,23 @@ const CASES: [Case; 9] = [
         down: false,
         destination: 64,
         segments: &[],
-        fate: Fate::Dropped(Fault::NoNextHop),
+        fate: Fate::Dropped(DropReason::NoNextHop),
     },
 ];
 
-// What becomes of the packet at a router that learns of a failure in this way.
-fn forwarded_at<F: Fn(&mut Forwarder) -> Result<(), Fault>>(
-    heap: Global,
-    case: &Case,
-    learn: F,
-) -> Result<Fate, Fail>
-    requires { F.IsAlwaysCallable learn }
-{
-    let topology = Topology::read(heap, case.bytes)?;
-    let mut forwarder = Forwarder::new(&topology, NodeId(case.at))?;
+fn fate_of(heap: Global, case: &Case) -> Result<Fate, Fail> {
+    let mut router = router_of(heap, case.bytes, NodeId(case.at))?;
     if case.down {
-        learn(&mut forwarder)?;
+        router.hear(NodeId(case.at), Message::LinkDown(FAILED), &mut Vec::new(heap))?;
     }
     let packet = Packet::new(NodeId(case.destination), segments_of(case.segments)?);
-    Ok(Fate::from(forwarder.forward(packet)))
+    Ok(Fate::from(router.forward(packet)))
 }
 
 #[test]
 fn forwarded(rt: HostRuntime) -> Result<(), Fail> {
     for case in CASES.iter() {
-        let fate = forwarded_at(rt.alloc(), case, |forwarder| forwarder.fail(FAILED))?;
-        assert_eq!(rt; fate, case.fate, "{}", case.name);
-    }
-    Ok(())
-}
-
-// The same packets where the router learns of the failure, as one that switches does.
-#[test]
-fn forwarded_by_learning(rt: HostRuntime) -> Result<(), Fail> {
-    for case in CASES.iter() {
-        let fate = forwarded_at(rt.alloc(), case, |forwarder| {
-            forwarder.learn(FAILED);
-            Ok(())
-        })?;
-        assert_eq!(rt; fate, case.fate, "{}", case.name);
+        assert_eq!(rt; fate_of(rt.alloc(), case)?, case.fate, "{}", case.name);
     }
     Ok(())
 }

@@ -1,9 +1,10 @@
 // Small networks that several tests read, all costs 1, and what is done in them.
-use links::fault::Fault;
-use links::link::LinkId;
-use links::node::NodeId;
-use packets::segment::Segment;
-use packets::sender::SenderSegments;
+use links::Topology;
+use router::Router;
+use std::alloc::Global;
+use std::test::Fail;
+use types::{LinkId, NodeId, ReadFault, Segment, SenderSegments};
+use wire::parse_links;
 
 // 0-1, 0-3, 1-2, 2-3
 pub(crate) const RING: &[u8] = &[1, 4, 0, 4, 0, 1, 0, 1, 0, 3, 0, 1, 1, 2, 0, 1, 2, 3, 0, 1];
@@ -21,10 +22,24 @@ pub(crate) const FAILED: LinkId = LinkId {
 };
 
 // The segments that a sender puts on a packet.
-pub(crate) fn segments_of(list: &[Segment]) -> Result<SenderSegments, Fault> {
+pub(crate) fn segments_of(list: &[Segment]) -> Result<SenderSegments, ReadFault> {
     let mut segments = SenderSegments::new();
     for segment in list {
         segments.push(*segment)?;
     }
     Ok(segments)
+}
+
+// The network that bytes say.
+pub(crate) fn topology_of(heap: Global, bytes: &[u8]) -> Result<Topology, Fail> {
+    Ok(parse_links(heap, bytes)?)
+}
+
+// The router at a node of it.
+pub(crate) fn router_of(heap: Global, bytes: &[u8], me: NodeId) -> Result<Router, Fail> {
+    let topology = topology_of(heap, bytes)?;
+    if !me.is_below(topology.nodes()) {
+        return Err(Fail::new("there is no such node"));
+    }
+    Ok(Router::new(heap, &topology, me))
 }

@@ -1,12 +1,12 @@
 // Bytes that a reader refuses.
-use links::fault::Fault;
-use links::wire::ReadError;
+use types::ReadFault;
+use wire::ReadError;
 
 // By which fault, and at which byte.
 pub(crate) struct Refused {
     pub(crate) name: &'static str,
     pub(crate) bytes: &'static [u8],
-    pub(crate) fault: Fault,
+    pub(crate) fault: ReadFault,
     pub(crate) at: usize,
 }
 

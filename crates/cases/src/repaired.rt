@@ -1,15 +1,12 @@
-// Repairs in small networks in which the link 0-1 fails, and what is refused.
-use crate::networks::{PAIR, RING, TRIANGLE};
-use links::fault::Fault;
-use links::node::NodeId;
-use links::topology::Topology;
-use repairs::laying::{lay_link, lay_row};
-use repairs::repair::{Entry, Repair};
-use routes::routes::Routes;
+// Repairs in small networks in which the link 0-1 fails.
+use crate::networks::{PAIR, RING, TRIANGLE, topology_of};
+use repairs::{Entry, Repair, precompute_link, precompute_row};
+use routes::Routes;
 use std::alloc::Global;
 use std::test::Fail;
+use types::{MAX_NODES, NodeId};
 
-// What the end s of the link 0-1 lays up for the destination d.
+// What the end s of the link 0-1 has for the destination d.
 struct Case {
     name: &'static str,
     bytes: &'static [u8],
@@ -89,63 +86,35 @@ const CASES: [Case; 8] = [
     },
 ];
 
-fn routes_of(heap: Global, bytes: &[u8]) -> Result<Routes, Fail> {
-    Ok(Routes::of(&Topology::read(heap, bytes)?))
+// What the end s of the link 0-1 has for d.
+fn entry_of(heap: Global, case: &Case) -> Result<Option<Entry>, Fail> {
+    let routes = Routes::of(&topology_of(heap, case.bytes)?);
+    let (s, f) = (NodeId(case.s), NodeId(1 - (case.s & 1)));
+    if routes.link_cost(s, f).is_none() {
+        return Err(Fail::new("there is no such link"));
+    }
+    let mut room = [Entry::Unused; MAX_NODES];
+    let row = &mut room[0..routes.nodes() as usize];
+    precompute_row(&routes, s, f, row);
+    Ok(row.get(case.d as usize).copied())
 }
 
 #[test]
 fn repairs(rt: HostRuntime) -> Result<(), Fail> {
     for case in CASES.iter() {
-        let routes = routes_of(rt.alloc(), case.bytes)?;
-        let (s, f) = (NodeId(case.s), NodeId(1 - (case.s & 1)));
-        let mut room = [Entry::Unused; 64];
-        let row = &mut room[0..routes.nodes() as usize];
-        lay_row(&routes, s, f, row)?;
-        let found = row.get(case.d as usize).copied();
-        assert_eq!(rt; found, Some(case.entry), "{}", case.name);
+        assert_eq!(rt; entry_of(rt.alloc(), case)?, Some(case.entry), "{}", case.name);
     }
     Ok(())
 }
 
 #[test]
-fn refusals_of_rows(rt: HostRuntime) -> Result<(), Fail> {
-    let routes = routes_of(rt.alloc(), RING)?;
-    let mut row = [Entry::Apart; 4];
-    let mut long = [Entry::Apart; 5];
-    assert_eq!(rt;
-        lay_row(&routes, NodeId(0), NodeId(2), &mut row),
-        Err(Fault::NoSuchLink)
-    );
-    assert_eq!(rt;
-        lay_row(&routes, NodeId(0), NodeId(64), &mut row),
-        Err(Fault::NoSuchLink)
-    );
-    assert_eq!(rt;
-        lay_row(&routes, NodeId(0), NodeId(1), &mut long),
-        Err(Fault::WrongLength)
-    );
-    assert_eq!(rt;
-        lay_link(&routes, NodeId(0), NodeId(1), &mut row),
-        Err(Fault::WrongLength)
-    );
-    assert_eq!(rt;
-        row,
-        [Entry::Apart; 4],
-        "a refusal leaves the slice as it was"
-    );
-    assert_eq!(rt;
-        long,
-        [Entry::Apart; 5],
-        "a refusal leaves the slice as it was"
-    );
-    Ok(())
-}
-
-#[test]
 fn one_row_of_a_table(rt: HostRuntime) -> Result<(), Fail> {
-    let routes = routes_of(rt.alloc(), RING)?;
-    let mut table = [Entry::Apart; 4096];
-    assert_eq!(rt; lay_link(&routes, NodeId(0), NodeId(1), &mut table), Ok(()));
+    let routes = Routes::of(&topology_of(rt.alloc(), RING)?);
+    if routes.link_cost(NodeId(0), NodeId(1)).is_none() {
+        return Err(Fail::new("there is no such link"));
+    }
+    let mut table = [Entry::Apart; MAX_NODES * MAX_NODES];
+    precompute_link(&routes, NodeId(0), NodeId(1), &mut table);
     let untouched = table.iter().filter(|entry| **entry == Entry::Apart).count();
     assert_eq!(rt; untouched, 4092, "only the row of the link is written");
     Ok(())

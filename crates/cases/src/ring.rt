@@ -1,13 +1,9 @@
 // The ring of four with all costs 1: distances, next hops, paths, and what lay prints.
-use crate::networks::RING;
-use links::fault::Fault;
-use links::link::LinkId;
-use links::node::NodeId;
-use links::topology::Topology;
-use report::plan;
-use routes::matrix::CostMatrix;
-use routes::routes::Routes;
+use crate::networks::{RING, topology_of};
+use render::plan;
+use routes::Routes;
 use std::test::Fail;
+use types::{LinkId, NodeId};
 
 // From a to d: the distance, the next hop, and whether the path uses the link 0-1.
 struct Way {
@@ -72,7 +68,7 @@ const WAYS: [Way; 7] = [
 
 #[test]
 fn ways(rt: HostRuntime) -> Result<(), Fail> {
-    let topology = Topology::read(rt.alloc(), RING)?;
+    let topology = topology_of(rt.alloc(), RING)?;
     let routes = Routes::of(&topology);
     let link = LinkId {
         a: NodeId(1),
@@ -89,37 +85,15 @@ fn ways(rt: HostRuntime) -> Result<(), Fail> {
 
 #[test]
 fn the_longer_path(rt: HostRuntime) -> Result<(), Fail> {
-    let topology = Topology::read(rt.alloc(), RING)?;
+    let topology = topology_of(rt.alloc(), RING)?;
     let path = Routes::of(&topology).path(rt.alloc(), NodeId(1), NodeId(3))?;
     assert_eq!(rt; path.as_slice(), [NodeId(0), NodeId(1)].as_slice());
     Ok(())
 }
 
 #[test]
-fn refused_slices_stay(rt: HostRuntime) -> Result<(), Fail> {
-    let topology = Topology::read(rt.alloc(), RING)?;
-    let costs = CostMatrix::of(&topology);
-    let mut dist = [7u32; 4];
-    assert_eq!(rt;
-        costs.distances(NodeId(4), &mut dist),
-        Err(Fault::NodeOutOfRange)
-    );
-    assert_eq!(rt;
-        costs.distances(NodeId(1), &mut dist[0..3]),
-        Err(Fault::WrongLength)
-    );
-    assert_eq!(rt; dist, [7, 7, 7, 7]);
-    assert_eq!(rt; costs.distances(NodeId(1), &mut dist), Ok(()));
-    assert_eq!(rt; dist, [1, 0, 1, 2]);
-    assert_eq!(rt; costs.cost(NodeId(0), NodeId(3)), Some(1));
-    assert_eq!(rt; costs.cost(NodeId(0), NodeId(2)), None);
-    assert_eq!(rt; costs.nodes(), 4);
-    Ok(())
-}
-
-#[test]
 fn an_isolated_node(rt: HostRuntime) -> Result<(), Fail> {
-    let topology = Topology::read(rt.alloc(), &[1, 3, 0, 1, 0, 2, 255, 255])?;
+    let topology = topology_of(rt.alloc(), &[1, 3, 0, 1, 0, 2, 255, 255])?;
     let text = plan(rt.alloc(), &topology)?;
     assert_eq!(rt;
         text.as_slice(),

@@ -1,15 +1,9 @@
 // Packets sent over whole networks in which the link 0-1 fails.
-use crate::networks::{FAILED, PAIR, RING, TRIANGLE, segments_of};
-use journeys::journey::State;
-use journeys::order::Order;
-use links::fault::Fault;
-use links::node::NodeId;
-use links::topology::Topology;
-use network::network::Network;
-use packets::segment::Segment;
+use crate::networks::{FAILED, PAIR, RING, TRIANGLE, segments_of, topology_of};
+use network::{FlightState, Network, SendRequest};
 use std::alloc::Global;
-use std::process::Abort;
 use std::test::Fail;
+use types::{DropReason, NodeId, Segment};
 
 // What has happened before the packet is sent. Named, as a table can't hold closures: each has a type of its own.
 enum Before {
@@ -28,7 +22,7 @@ struct Case {
     segments: &'static [Segment],
     path: &'static [NodeId],
     cost: u32,
-    state: State,
+    state: FlightState,
 }
 
 const CASES: [Case; 11] = [
@@ -41,7 +35,7 @@ const CASES: [Case; 11] = [
         segments: &[],
         path: &[NodeId(3), NodeId(0), NodeId(1)],
         cost: 2,
-        state: State::Delivered,
+        state: FlightState::Delivered,
     },
     Case {
         name: "to itself",
@@ -52,7 +46,7 @@ const CASES: [Case; 11] = [
         segments: &[],
         path: &[NodeId(2)],
         cost: 0,
-        state: State::Delivered,
+        state: FlightState::Delivered,
     },
     Case {
         name: "F: only the ends know",
@@ -63,7 +57,7 @@ const CASES: [Case; 11] = [
         segments: &[],
         path: &[NodeId(3), NodeId(0), NodeId(3), NodeId(2), NodeId(1)],
         cost: 4,
-        state: State::Delivered,
+        state: FlightState::Delivered,
     },
     Case {
         name: "G: node 3 has switched",
@@ -74,7 +68,7 @@ const CASES: [Case; 11] = [
         segments: &[],
         path: &[NodeId(3), NodeId(2), NodeId(1)],
         cost: 2,
-        state: State::Delivered,
+        state: FlightState::Delivered,
     },
     Case {
         name: "G: node 0 has not",
@@ -85,7 +79,7 @@ const CASES: [Case; 11] = [
         segments: &[],
         path: &[NodeId(0), NodeId(3), NodeId(2), NodeId(1)],
         cost: 3,
-        state: State::Delivered,
+        state: FlightState::Delivered,
     },
     Case {
         name: "all have switched",
@@ -96,7 +90,7 @@ const CASES: [Case; 11] = [
         segments: &[],
         path: &[NodeId(0), NodeId(3), NodeId(2), NodeId(1)],
         cost: 3,
-        state: State::Delivered,
+        state: FlightState::Delivered,
     },
     Case {
         name: "a repair for each of two aims",
@@ -115,7 +109,7 @@ const CASES: [Case; 11] = [
             NodeId(0),
         ],
         cost: 6,
-        state: State::Delivered,
+        state: FlightState::Delivered,
     },
     Case {
         name: "over a link of the sender's",
@@ -136,7 +130,7 @@ const CASES: [Case; 11] = [
             NodeId(1),
         ],
         cost: 5,
-        state: State::Delivered,
+        state: FlightState::Delivered,
     },
     Case {
         name: "over the failed link",
@@ -150,7 +144,7 @@ const CASES: [Case; 11] = [
         }],
         path: &[NodeId(0)],
         cost: 0,
-        state: State::Dropped(Fault::SegmentLinkDown),
+        state: FlightState::Dropped(DropReason::SegmentLinkDown),
     },
     Case {
         name: "a triangle",
@@ -161,10 +155,10 @@ const CASES: [Case; 11] = [
         segments: &[],
         path: &[NodeId(0), NodeId(2), NodeId(1)],
         cost: 2,
-        state: State::Delivered,
+        state: FlightState::Delivered,
     },
     Case {
-        name: "no path is left",
+        name: "no post-convergence path",
         bytes: PAIR,
         before: Before::EndsKnow,
         from: 0,
@@ -172,19 +166,19 @@ const CASES: [Case; 11] = [
         segments: &[],
         path: &[NodeId(0)],
         cost: 0,
-        state: State::Dropped(Fault::NoRepair),
+        state: FlightState::Dropped(DropReason::NoRepair),
     },
 ];
 
-fn network_of(rt: &impl Abort, heap: Global, case: &Case) -> Result<Network, Fail> {
-    let topology = Topology::read(heap, case.bytes)?;
+fn network_of(heap: Global, case: &Case) -> Result<Network, Fail> {
+    let topology = topology_of(heap, case.bytes)?;
     let mut network = Network::new(heap, &topology)?;
     match case.before {
         Before::Nothing => {}
         Before::EndsKnow => network.fail(FAILED)?,
         Before::Node3Switched => {
             network.fail(FAILED)?;
-            assert!(rt; network.deliver(0).is_some());
+            deliver(&mut network, 0)?;
             network.switch(NodeId(3), NodeId(1))?;
         }
         Before::AllSwitched => {
@@ -197,10 +191,18 @@ fn network_of(rt: &impl Abort, heap: Global, case: &Case) -> Result<Network, Fai
     Ok(network)
 }
 
+// A message arrives, if it is under way.
+fn deliver(network: &mut Network, k: usize) -> Result<(), Fail> {
+    if network.is_message_under_way(k) {
+        network.deliver(k)?;
+    }
+    Ok(())
+}
+
 // All messages arrive that were sent so far, and all routers switch that may then.
 fn deliver_and_switch(network: &mut Network) -> Result<(), Fail> {
     for k in 0..network.messages().len() {
-        let _ = network.deliver(k);
+        deliver(network, k)?;
     }
     for u in 0..4 {
         for d in 0..4 {
@@ -213,17 +215,21 @@ fn deliver_and_switch(network: &mut Network) -> Result<(), Fail> {
 #[test]
 fn sent(rt: HostRuntime) -> Result<(), Fail> {
     for case in CASES.iter() {
-        let mut network = network_of(&rt, rt.alloc(), case)?;
-        let number = network.send(Order {
-            start: NodeId(case.from),
+        let mut network = network_of(rt.alloc(), case)?;
+        let start = NodeId(case.from);
+        if !start.is_below(network.nodes()) {
+            return Err(Fail::new("there is no such node"));
+        }
+        let number = network.send(SendRequest {
+            start,
             destination: NodeId(case.to),
             segments: segments_of(case.segments)?,
         })?;
-        let Some(journey) = network.journey(number) else {
+        let Some(flight) = network.flight(number) else {
             return Err(Fail::new("the packet is not there"));
         };
         assert_eq!(rt;
-            (journey.path(), journey.spent(), journey.state()),
+            (flight.path(), flight.spent(), flight.state()),
             (case.path, case.cost, case.state),
             "{}",
             case.name

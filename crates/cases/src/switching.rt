@@ -1,11 +1,8 @@
 // One router of the ring, node 0, step by step, when the link 0-1 fails.
-use crate::networks::{FAILED, RING};
-use links::fault::Fault;
-use links::node::NodeId;
-use links::topology::Topology;
-use messages::message::{Message, Switched};
+use crate::networks::{FAILED, RING, router_of};
+use router::RouterError;
 use std::test::Fail;
-use switchover::router::Router;
+use types::{Message, NodeId, Refusal, Switched};
 
 enum Step {
     Hear { from: u8, message: Message },
@@ -16,7 +13,7 @@ enum Step {
 struct Case {
     name: &'static str,
     step: Step,
-    answer: Result<(), Fault>,
+    answer: Result<(), RouterError>,
     said: usize,
     may: [bool; 4],
 }
@@ -58,7 +55,7 @@ const CASES: [Case; 9] = [
             from: 1,
             message: SWITCHED,
         },
-        answer: Err(Fault::NotPending),
+        answer: Err(RouterError::Refused(Refusal::NotPending)),
         said: 1,
         may: [true, false, false, true],
     },
@@ -107,13 +104,14 @@ const CASES: [Case; 9] = [
 
 #[test]
 fn switched(rt: HostRuntime) -> Result<(), Fail> {
-    let topology = Topology::read(rt.alloc(), RING)?;
-    let mut router = Router::new(rt.alloc(), &topology, NodeId(0))?;
+    let mut router = router_of(rt.alloc(), RING, NodeId(0))?;
     let mut said = Vec::new(rt.alloc());
     for case in CASES.iter() {
         let answer = match case.step {
             Step::Hear { from, message } => router.hear(NodeId(from), message, &mut said),
-            Step::Switch(destination) => router.switch(NodeId(destination), &mut said),
+            Step::Switch(destination) => {
+                router.switch(NodeId(destination), &mut said).map_err(RouterError::Memory)
+            }
         };
         let may = [0, 1, 2, 3].map(|d| router.may_switch(NodeId(d)));
         assert_eq!(rt;

@@ -1,13 +1,9 @@
 // The lines that tear prints.
-use forwarding::forwarder::Forwarder;
-use journeys::journey::{Journey, State};
-use links::fault::Fault;
-use links::node::NodeId;
-use messages::message::{Message, Sent, Switched};
-use network::network::Network;
+use network::{Flight, FlightState, Network};
+use router::Router;
 use std::fmt;
 use std::iter::repeat;
-use switchover::router::Router;
+use types::{Message, NodeId, Refusal, Sent, Switched};
 
 // Messages, packets and lines are meant by their indices; what is printed counts from 1.
 #[derive(Clone, Copy, Debug)]
@@ -29,13 +25,10 @@ impl fmt::Display for Word {
         let Sent { from, to, message } = self.0;
         match message {
             Message::LinkDown(link) => write!(f, "{from}>{to} closed {link}"),
-            Message::Switched(
-                Switched {
-                    from: _,
-                    destination,
-                    link,
-                },
-            ) => write!(f, "{from}>{to} over {destination} {link}"),
+            Message::Switched(message) => {
+                let Switched { destination, link, .. } = message;
+                write!(f, "{from}>{to} over {destination} {link}")
+            }
         }
     }
 }
@@ -63,29 +56,16 @@ impl fmt::Display for Words<'_> {
     }
 }
 
-// A space, and the number of a fault; by hand, as a fault that has no number prints nothing, which a derive can't tell.
-#[derive(Clone, Copy)]
-struct FaultNumber(Fault);
-
-impl fmt::Display for FaultNumber {
-    fn fmt<W: fmt::Write>(&self, f: &mut fmt::Formatter<W>) -> fmt::Result {
-        match self.0.number() {
-            Some(n) => write!(f, " {n}"),
-            None => Ok(()),
-        }
-    }
-}
-
-// A message that is refused where it arrives.
+/// A message that is refused where it arrives.
 #[derive(Clone, Copy)]
 pub struct RefusedWord {
     pub number: Number,
-    pub fault: Fault,
+    pub refusal: Refusal,
 }
 
 impl fmt::Display for RefusedWord {
     fn fmt<W: fmt::Write>(&self, f: &mut fmt::Formatter<W>) -> fmt::Result {
-        write!(f, "word {} refused{}", self.number, FaultNumber(self.fault))
+        write!(f, "word {} refused {}", self.number, self.refusal.number())
     }
 }
 
@@ -99,9 +79,9 @@ pub struct Waits<'a> {
 impl fmt::Display for Waits<'_> {
     fn fmt<W: fmt::Write>(&self, f: &mut fmt::Formatter<W>) -> fmt::Result {
         let Waits { router, d } = *self;
-        let u = router.forwarder().node();
+        let u = router.node();
         write!(f, "over {u} {d}: waits for")?;
-        for v in (0..router.forwarder().nodes()).map(NodeId) {
+        for v in (0..router.nodes()).map(NodeId) {
             if router.waits_for(d, v) {
                 write!(f, " {v}")?;
             }
@@ -110,24 +90,23 @@ impl fmt::Display for Waits<'_> {
     }
 }
 
-// Where a packet is, or how it ended and the whole path from its start.
+/// Where a packet is, or how it ended and the whole path from its start.
 #[derive(Clone, Copy)]
-pub struct Packet<'a> {
+pub struct PacketLine<'a> {
     pub number: Number,
-    pub journey: &'a Journey,
+    pub flight: &'a Flight,
 }
 
-impl fmt::Display for Packet<'_> {
+impl fmt::Display for PacketLine<'_> {
     fn fmt<W: fmt::Write>(&self, f: &mut fmt::Formatter<W>) -> fmt::Result {
-        let Packet { number, journey } = *self;
-        let path = Path(journey);
-        let cost = journey.spent();
-        match journey.state() {
-            State::UnderWay(_) => write!(f, "packet {number} at {}", journey.at()),
-            State::Delivered => write!(f, "packet {number}:{path} arrived cost {cost}"),
-            State::Dropped(fault) => {
-                let fault = FaultNumber(fault);
-                write!(f, "packet {number}:{path} dropped{fault} cost {cost}")
+        let PacketLine { number, flight } = *self;
+        let path = Path(flight);
+        let cost = flight.spent();
+        match flight.state() {
+            FlightState::UnderWay(_) => write!(f, "packet {number} at {}", flight.at()),
+            FlightState::Delivered => write!(f, "packet {number}:{path} arrived cost {cost}"),
+            FlightState::Dropped(reason) => {
+                write!(f, "packet {number}:{path} dropped {} cost {cost}", reason.number())
             }
         }
     }
@@ -135,7 +114,7 @@ impl fmt::Display for Packet<'_> {
 
 // Where a packet has been, a space before each.
 #[derive(Clone, Copy)]
-struct Path<'a>(&'a Journey);
+struct Path<'a>(&'a Flight);
 
 impl fmt::Display for Path<'_> {
     fn fmt<W: fmt::Write>(&self, f: &mut fmt::Formatter<W>) -> fmt::Result {
@@ -154,7 +133,7 @@ impl fmt::Display for Routers<'_> {
     fn fmt<W: fmt::Write>(&self, f: &mut fmt::Formatter<W>) -> fmt::Result {
         for u in (0..self.0.nodes()).map(NodeId) {
             if let Some(router) = self.0.router(u) {
-                let table = Table(router.forwarder());
+                let table = Table(router);
                 writeln!(f, "router {u}: down {}; table{table}", Failure(router))?;
             }
         }
@@ -168,10 +147,10 @@ struct Failure<'a>(&'a Router);
 
 impl fmt::Display for Failure<'_> {
     fn fmt<W: fmt::Write>(&self, f: &mut fmt::Formatter<W>) -> fmt::Result {
-        let forwarder = self.0.forwarder();
-        match forwarder.failure() {
+        let router = self.0;
+        match router.failure() {
             Some(link) => {
-                let (switched, pending) = (SwitchedFor(forwarder), Pending(self.0));
+                let (switched, pending) = (SwitchedFor(router), Pending(router));
                 write!(f, "{link}; switched{switched}; waits{pending}")
             }
             None => f.write_str("none; switched none; waits none"),
@@ -181,14 +160,14 @@ impl fmt::Display for Failure<'_> {
 
 // The destinations that a router has switched for, a space before each.
 #[derive(Clone, Copy)]
-struct SwitchedFor<'a>(&'a Forwarder);
+struct SwitchedFor<'a>(&'a Router);
 
 impl fmt::Display for SwitchedFor<'_> {
     fn fmt<W: fmt::Write>(&self, f: &mut fmt::Formatter<W>) -> fmt::Result {
-        let SwitchedFor(forwarder) = *self;
-        let mut switched = (0..forwarder.nodes())
+        let SwitchedFor(router) = *self;
+        let mut switched = (0..router.nodes())
             .map(NodeId)
-            .filter(|d| forwarder.has_switched(*d))
+            .filter(|d| router.has_switched(*d))
             .peekable();
         if switched.peek().is_none() {
             return f.write_str(" none");
@@ -208,7 +187,7 @@ impl fmt::Display for Pending<'_> {
     fn fmt<W: fmt::Write>(&self, f: &mut fmt::Formatter<W>) -> fmt::Result {
         // The pairs by `repeat`, since a closure can't give out an iterator that holds another.
         let Pending(router) = *self;
-        let nodes = router.forwarder().nodes();
+        let nodes = router.nodes();
         let mut pending = (0..nodes)
             .flat_map(|d| repeat(d).zip(0..nodes))
             .filter(|(d, v)| router.waits_for(NodeId(*d), NodeId(*v)))
@@ -225,7 +204,7 @@ impl fmt::Display for Pending<'_> {
 
 // The next hop for each destination, a space before each.
 #[derive(Clone, Copy)]
-struct Table<'a>(&'a Forwarder);
+struct Table<'a>(&'a Router);
 
 impl fmt::Display for Table<'_> {
     fn fmt<W: fmt::Write>(&self, f: &mut fmt::Formatter<W>) -> fmt::Result {

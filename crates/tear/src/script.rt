@@ -1,15 +1,12 @@
 // The lines of a script: what each asks for, or why it is bad.
 use crate::bad_line::BadLine;
-use console::number;
-use journeys::order::Order;
-use links::link::LinkId;
-use links::node::NodeId;
-use packets::segment::Segment;
-use packets::sender::SenderSegments;
+use cli::number;
+use network::SendRequest;
 use std::alloc::Global;
 use std::str::from_utf8;
+use types::{LinkId, NodeId, Segment, SenderSegments};
 
-// What a line asks for. Messages and packets are meant by their indices; scripts count them from 1.
+/// What a line asks for. Messages and packets are meant by their indices; scripts count them from 1.
 #[derive(Clone, Copy)]
 pub enum Command {
     Nothing,
@@ -20,14 +17,14 @@ pub enum Command {
     Again(usize),
     Over(NodeId, NodeId),
     OverAll,
-    Send(Order),
-    Put(Order),
+    Send(SendRequest),
+    Put(SendRequest),
     Hop(usize),
     Run(usize),
     State,
 }
 
-// What a line asks for, in a network with so many nodes. What follows # is a comment.
+/// What a line asks for, in a network with so many nodes. What follows # is a comment.
 pub fn parse(heap: Global, line: &[u8], nodes: u8) -> Result<Command, BadLine> {
     let code = line.split(|byte| *byte == b'#').next().unwrap_or(line);
     let text = from_utf8(code).map_err(|_| BadLine::NotText)?;
@@ -54,8 +51,8 @@ fn parse_words(words: &[&str], nodes: u8) -> Result<Command, BadLine> {
             node(router, nodes)?,
             node(destination, nodes)?,
         )),
-        ["send", rest @ ..] => Ok(Command::Send(parse_order(rest, nodes)?)),
-        ["put", rest @ ..] => Ok(Command::Put(parse_order(rest, nodes)?)),
+        ["send", rest @ ..] => Ok(Command::Send(parse_request(rest, nodes)?)),
+        ["put", rest @ ..] => Ok(Command::Put(parse_request(rest, nodes)?)),
         ["hop", packet] => Ok(Command::Hop(index(packet)?)),
         ["run", packet] => Ok(Command::Run(index(packet)?)),
         ["state"] => Ok(Command::State),
@@ -63,7 +60,7 @@ fn parse_words(words: &[&str], nodes: u8) -> Result<Command, BadLine> {
     }
 }
 
-fn parse_order(words: &[&str], nodes: u8) -> Result<Order, BadLine> {
+fn parse_request(words: &[&str], nodes: u8) -> Result<SendRequest, BadLine> {
     let [start, destination, rest @ ..] = words else {
         return Err(BadLine::NoEnds);
     };
@@ -71,8 +68,8 @@ fn parse_order(words: &[&str], nodes: u8) -> Result<Order, BadLine> {
     for word in rest {
         segments.push(segment(word, nodes)?)?;
     }
-    Ok(Order {
-        start: node(start, nodes)?,
+    Ok(SendRequest {
+        start: any_node(start, nodes)?,
         destination: node(destination, nodes)?,
         segments,
     })
@@ -91,10 +88,17 @@ fn segment(word: &str, nodes: u8) -> Result<Segment, BadLine> {
 }
 
 fn node(word: &str, nodes: u8) -> Result<NodeId, BadLine> {
-    number(word)
-        .map(NodeId)
-        .filter(|node| node.is_below(nodes))
-        .ok_or(BadLine::Node(nodes))
+    let node = any_node(word, nodes)?;
+    if node.is_below(nodes) {
+        Ok(node)
+    } else {
+        Err(BadLine::Node(nodes))
+    }
+}
+
+// A node that may not be one of the network's.
+fn any_node(word: &str, nodes: u8) -> Result<NodeId, BadLine> {
+    number(word).map(NodeId).ok_or(BadLine::Node(nodes))
 }
 
 // The index of what has this number.

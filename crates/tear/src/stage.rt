@@ -1,16 +1,13 @@
 // What each command does to a network, and prints.
-use crate::bad_line::{BadLine, RefusedLink};
-use crate::printing::{Number, Packet, RefusedWord, Routers, Waits, Words};
+use crate::bad_line::{BadLine, RefusedLink, Why};
+use crate::printing::{Number, PacketLine, RefusedWord, Routers, Waits, Words};
 use crate::script::Command;
-use journeys::journey::Journey;
-use links::fault::Fault;
-use links::link::LinkId;
-use links::node::NodeId;
-use network::network::Network;
+use network::{Flight, Network, SendRequest};
+use router::{Router, RouterError};
 use std::alloc::{AllocError, Global};
-use switchover::router::Router;
+use types::{LinkId, NodeId, Refusal};
 
-// A network that is played, and what is printed of it.
+/// A network that is played, and what is printed of it.
 #[derive(Drop)]
 pub struct Stage {
     network: Network,
@@ -38,54 +35,64 @@ impl Stage {
             Command::Nothing => Ok(()),
             Command::Close(link) => self.close(link),
             Command::Words => Ok(write!(self.out, "{}", Words(&self.network))?),
-            Command::Deliver(k) => self.take(k, |network| network.deliver(k)),
+            Command::Deliver(k) => self.deliver(k),
             Command::DeliverAll => self.deliver_all(),
-            Command::Again(k) => self.take(k, |network| network.arrive(k)),
+            Command::Again(k) => self.arrive_again(k),
             Command::Over(u, d) => self.over(u, d),
             Command::OverAll => self.over_all(),
-            Command::Send(order) => self.start(|network| network.send(order)),
-            Command::Put(order) => self.start(|network| network.put(order)),
-            Command::Hop(q) => self.handle(q, |network| network.hop(q)),
-            Command::Run(q) => self.handle(q, |network| network.play(q)),
+            Command::Send(request) => self.send(request),
+            Command::Put(request) => self.put(request),
+            Command::Hop(q) => self.hop(q),
+            Command::Run(q) => self.run(q),
             Command::State => Ok(write!(self.out, "{}", Routers(&self.network))?),
         }
     }
 
     // The link fails, and its two ends know.
     fn close(&mut self, link: LinkId) -> Result<(), BadLine> {
-        self.network
-            .fail(link)
-            .map_err(|fault| BadLine::Link(RefusedLink { link, fault }))?;
+        if let Err(fault) = link.check(self.nodes()) {
+            let why = Why::NoLink(fault);
+            return Err(BadLine::Link(RefusedLink { link, why }));
+        }
+        if let Err(error) = self.network.fail(link) {
+            return Err(BadLine::of_link(link, error));
+        }
         self.network.switch_untouched(link.a)?;
         self.network.switch_untouched(link.b)?;
         Ok(writeln!(self.out, "closed {link}")?)
     }
 
     // A message that there isn't, or that has arrived, is a mistake of the script's.
-    fn take<F: FnOnce(&mut Network) -> Option<Result<(), Fault>>>(
-        &mut self,
-        k: usize,
-        taking: F,
-    ) -> Result<(), BadLine>
-        requires { F.IsAlwaysCallable taking }
-    {
-        let answer = taking(&mut self.network).ok_or(BadLine::Message(Number(k)))?;
+    fn deliver(&mut self, k: usize) -> Result<(), BadLine> {
+        if !self.network.is_message_under_way(k) {
+            return Err(BadLine::Message(Number(k)));
+        }
+        let answer = self.network.deliver(k);
+        self.arrived(k, answer)
+    }
+
+    // It arrives, and stays under way.
+    fn arrive_again(&mut self, k: usize) -> Result<(), BadLine> {
+        if !self.network.is_message_under_way(k) {
+            return Err(BadLine::Message(Number(k)));
+        }
+        let answer = self.network.arrive(k);
         self.arrived(k, answer)
     }
 
     // What comes of a message that has arrived. One that nobody waits for is passed over in silence.
-    fn arrived(&mut self, k: usize, answer: Result<(), Fault>) -> Result<(), BadLine> {
+    fn arrived(&mut self, k: usize, answer: Result<(), RouterError>) -> Result<(), BadLine> {
         match answer {
             Ok(()) => self.switch_untouched_of(k),
-            Err(Fault::NotPending) => Ok(()),
-            Err(Fault::Memory) => Err(BadLine::Refused(Fault::Memory)),
-            Err(fault) => {
+            Err(RouterError::Refused(Refusal::NotPending)) => Ok(()),
+            Err(RouterError::Refused(refusal)) => {
                 let refused = RefusedWord {
                     number: Number(k),
-                    fault,
+                    refusal,
                 };
                 Ok(writeln!(self.out, "{refused}")?)
             }
+            Err(RouterError::Memory(error)) => Err(BadLine::Memory(error)),
         }
     }
 
@@ -105,8 +112,8 @@ impl Stage {
             if k >= self.network.messages().len() {
                 break;
             }
-            if let Some(answer) = self.network.deliver(k) {
-                self.arrived(k, answer)?;
+            if self.network.is_message_under_way(k) {
+                self.deliver(k)?;
             }
         }
         Ok(())
@@ -155,38 +162,50 @@ impl Stage {
             .is_some_and(|router| router.may_switch(d))
     }
 
-    // A new packet.
-    fn start<F: FnOnce(&mut Network) -> Result<usize, Fault>>(
-        &mut self,
-        starting: F,
-    ) -> Result<(), BadLine>
-        requires { F.IsAlwaysCallable starting }
-    {
-        let q = starting(&mut self.network)?;
+    // A packet starts at a node of the network.
+    fn send(&mut self, request: SendRequest) -> Result<(), BadLine> {
+        if !request.start.is_below(self.network.nodes()) {
+            return Err(BadLine::Node(self.network.nodes()));
+        }
+        let q = self.network.send(request)?;
+        Ok(self.print_packet(q)?)
+    }
+
+    fn put(&mut self, request: SendRequest) -> Result<(), BadLine> {
+        if !request.start.is_below(self.network.nodes()) {
+            return Err(BadLine::Node(self.network.nodes()));
+        }
+        let q = self.network.put(request)?;
+        Ok(self.print_packet(q)?)
+    }
+
+    fn hop(&mut self, q: usize) -> Result<(), BadLine> {
+        self.check_under_way(q)?;
+        self.network.hop(q)?;
+        Ok(self.print_packet(q)?)
+    }
+
+    fn run(&mut self, q: usize) -> Result<(), BadLine> {
+        self.check_under_way(q)?;
+        self.network.play(q)?;
         Ok(self.print_packet(q)?)
     }
 
     // A packet that there isn't, or that has ended, is a mistake of the script's.
-    fn handle<F: FnOnce(&mut Network) -> Result<(), Fault>>(
-        &mut self,
-        q: usize,
-        handling: F,
-    ) -> Result<(), BadLine>
-        requires { F.IsAlwaysCallable handling }
-    {
-        if !self.network.journey(q).is_some_and(Journey::is_under_way) {
-            return Err(BadLine::Packet(Number(q)));
+    fn check_under_way(&self, q: usize) -> Result<(), BadLine> {
+        if self.network.flight(q).is_some_and(Flight::is_under_way) {
+            Ok(())
+        } else {
+            Err(BadLine::Packet(Number(q)))
         }
-        handling(&mut self.network)?;
-        Ok(self.print_packet(q)?)
     }
 
     // Where a packet is, or how it ended.
     fn print_packet(&mut self, q: usize) -> Result<(), AllocError> {
-        match self.network.journey(q) {
-            Some(journey) => {
+        match self.network.flight(q) {
+            Some(flight) => {
                 let number = Number(q);
-                writeln!(self.out, "{}", Packet { number, journey })
+                writeln!(self.out, "{}", PacketLine { number, flight })
             }
             None => Ok(()),
         }
@@ -195,6 +214,5 @@ impl Stage {
 
 // Of a router that may not switch for d: is that because it still waits for others?
 fn waits(router: &Router, d: NodeId) -> bool {
-    let forwarder = router.forwarder();
-    forwarder.failure().is_some() && !forwarder.has_switched(d)
+    router.failure().is_some() && !router.has_switched(d)
 }
