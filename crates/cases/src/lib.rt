@@ -1,8 +1,6 @@
-// Tests of the libraries, as tables of cases.
+//! Tests of the libraries, as tables of cases.
 #![tactic(auto)]
 
-#[cfg(test)]
-mod bytes;
 #[cfg(test)]
 mod faults;
 #[cfg(test)]
@@ -10,7 +8,11 @@ mod handed_on;
 #[cfg(test)]
 mod lists;
 #[cfg(test)]
+mod message_bytes;
+#[cfg(test)]
 mod networks;
+#[cfg(test)]
+mod packet_bytes;
 #[cfg(test)]
 mod refused;
 #[cfg(test)]
