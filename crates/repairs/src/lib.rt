@@ -1,5 +1,8 @@
-// Repairs, laid up beforehand for each link of a node and each destination.
+//! The repairs of a node's links, precomputed for each destination.
 #![tactic(auto)]
 
-pub mod laying;
+pub mod precompute;
 pub mod repair;
+
+pub use precompute::{precompute_link, precompute_row};
+pub use repair::{Entry, Repair};
