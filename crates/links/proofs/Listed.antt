@@ -1,5 +1,4 @@
 -- In a rising list no link hides another.
--- p comes before l, by numbers
 use Rattle.std.proofs.Common.{◌≡◌, ℕ, zero, suc, ◌<◌, true, false, ◌&&◌, eqb, ltb, ◌⊎◌, List, [], ◌∷◌, length, get_or, refl, ◌∙◌, inl, inr, arith}
 use Rattle.std.proofs.lemmas.Bool.{ltb-true, eqb-true, eq-eqb, and_parts, cases_Bool, and_from, or_cases, or_left}
 use Rattle.types.specs.Link.{ends_of}
@@ -9,6 +8,7 @@ use Rattle.theory.specs.Network.{joins}
 use Rattle.theory.proofs.Joins.{joins_ends}
 use Rattle.types.specs.declared.link.Link.{Link}
 
+-- p comes before l, by numbers
 abbrev Before : Link → Link → Type 0
 Before p l = (p.a < l.a) ⊎ ((p.a ≡ l.a) × (p.b < l.b))
 

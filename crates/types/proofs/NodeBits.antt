@@ -14,7 +14,7 @@ set_of n = record { 0 = n }
 is_one : (x y : ℕ) → x ≡ y → eqb x 1 ≡ eqb y 1
 is_one x y e = ap (λ i. eqb i 1) e
 
--- nobody from 64 on
+-- no node from 64 on
 pub none_above : (n v : ℕ) → n < 18446744073709551616 → 64 ≤ v → has (set_of n) v ≡ false
 none_above n v f h = is_one (bit_at n v) 0 (bit_at_above n 64 v f h)
 
