@@ -1,4 +1,4 @@
--- One hop of a packet on its way to its aim: what it costs, and whether a repair is put. Assumes nothing.
+-- One hop of a packet on its way to its aim: what it costs, and whether a repair is put.
 use Rattle.std.proofs.Common.{◌≡◌, ℕ, suc, ◌+◌, ◌-◌, ◌<◌, ◌≤◌, Bool, true, false, eqb, ◌⊎◌, List, [], ◌∷◌, length, Some, None, Option, sym, refl, ap, ◌∙◌, subst, inl, inr, arith}
 use Rattle.std.proofs.lemmas.Bool.{both_ways, eq-eqb, ne_eqb, cases_eq, cases_Bool, cond-true, cond-false, cond_both}
 use Rattle.protocol.specs.Delivery.{aim_at, blocked}
@@ -7,7 +7,7 @@ use Rattle.protocol.specs.Order.{InOrder}
 use Rattle.protocol.specs.System.{count_if}
 use Rattle.protocol.specs.Router.{entry}
 use Rattle.protocol.specs.Costs.{Aims}
-use Rattle.protocol.specs.Packet.{strip, towards, by_segments, forward_by, Packet, Segment, NodeSeg, LinkSeg, Decision, Deliver, Send}
+use Rattle.protocol.specs.Packet.{towards, by_segments, forward_by, Decision, Deliver, Send}
 use Rattle.protocol.proofs.Forwarding.{less, towards_repair, strip_none, strip_other, strip_own, strip_link, forward_on, at_dest, not_at_dest, blocked_by, open_next, towards_next, over_link_lem}
 use Rattle.protocol.proofs.Touched.{uses_hop, uses_elsewhere, uses_on, by_use, only_end, left_on, steady}
 use Rattle.protocol.proofs.Shape.{build, over, knows, entry_is, entry_new, entry_old, entry_steady, Shape}
@@ -21,9 +21,13 @@ use Rattle.theory.proofs.NextHops.{next_hop_is, next_hop_where}
 use Rattle.theory.proofs.Without.{cost_left, link_left_lem, link_kept, lawful_without, untouched}
 use Rattle.theory.proofs.Using.{same_some, second_link}
 use Rattle.theory.proofs.Paths.{some_inj, none_some}
+use Rattle.types.specs.Packet.{Packet}
+use Rattle.types.specs.Segments.{strip}
+use Rattle.types.specs.declared.segment.Segment.{Segment}
+use Rattle.types.specs.declared.segment.Segment.TheVariants.{Node, Link}
 
 abbrev pub pack : ℕ → ℕ → List Segment → Packet
-pack d h ts = record { dest = d; hop_limit = h; segments = ts }
+pack d h ts = record { destination = d; hop_limit = h; segments = ts }
 
 -- u's path to x uses the link; it goes up to the end s, and on by the distance that is left. Where u is not s, P says that nobody has switched for x
 pub record Climbs (z : Network) (r : LinkId) (P : Type 0) (x u R : ℕ) : Type 0 where
@@ -46,7 +50,7 @@ pub record Aside (z : Network) (r : LinkId) (x : ℕ) (tl : List Segment) (u : �
   pub q : ℕ
   pub a : ℕ
   pub b : ℕ
-  pub is : ts ≡ NodeSeg p ∷ (LinkSeg p q ∷ tl)
+  pub is : ts ≡ Node p ∷ (Link p q ∷ tl)
   pub to_p : distance z p u ≡ Some a
   pub clear_to : uses z r p u ≡ false
   pub link : 0 < z.cost p q
@@ -107,8 +111,8 @@ cons_nil y ys e = omega (arith, ap (λ (l : List Segment). length l) e)
 -- elsewhere than at the aim nothing is taken off
 aim_strip : (d x u : ℕ) (tl : List Segment) → Aims d tl x → (u ≡ x → ⊥) → (strip u tl ≡ tl) × (aim_at u d tl ≡ Some x)
 aim_strip d x u [] a ne = (strip_none u, cond-false (eqb u d) None (Some d) (ne_eqb u d (λ e. ne (e ∙ a))) ∙ ap Some a)
-aim_strip d x u (NodeSeg y ∷ us) a ne = (strip_other u y us (λ e. ne (e ∙ a)), ap Some a)
-aim_strip d x u (LinkSeg y v ∷ us) a ne = absurd a
+aim_strip d x u (Node y ∷ us) a ne = (strip_other u y us (λ e. ne (e ∙ a)), ap Some a)
+aim_strip d x u (Link y v ∷ us) a ne = absurd a
 
 module _ (z : Network) (g : Lawful z) (r : LinkId) (G : ℕ → List LinkId) (f : Done) (order : InOrder z r f) (P : Type 0) (d x : ℕ) (tl : List Segment) (aims : Aims d tl x) (few : length tl ≤ 3) (N : P → (v : ℕ) → f x v ≡ false)
     (u h : ℕ) (pos : 0 < h) (S : Shape) (is : (e : ℕ) → over S e ≡ f e u) (ends : (v : ℕ) → joins r u v ≡ true → knows S ≡ true) where
@@ -129,8 +133,8 @@ module _ (z : Network) (g : Lawful z) (r : LinkId) (G : ℕ → List LinkId) (f 
           let off = ap (λ l. strip u l) i ∙ strip_none u in
           freely (ap (λ l. blocked_by (build z r G u S) u d l) off ∙ ap (λ y. blocked (build z r G u S) y) (cond-true (eqb u d) None (Some d) (eq-eqb u d (w ∙ sym a))))
           (is_delivered o (forward_on k z r G u S (pack d h ts) ts [] off ∙ at_dest z r G u S (pack d h ts) (forward_by k (build z r G u S) (pack d h ts)) (w ∙ sym a)))
-      go (NodeSeg y ∷ us) a i = leaves (cons_nil (NodeSeg y) us) w i
-      go (LinkSeg y v ∷ us) a i = absurd a
+      go (Node y ∷ us) a i = leaves (cons_nil (Node y) us) w i
+      go (Link y v ∷ us) a i = absurd a
 
   -- elsewhere
   off : (ts : List Segment) → ts ≡ tl → (u ≡ x → ⊥) → strip u ts ≡ tl
@@ -143,8 +147,8 @@ module _ (z : Network) (g : Lawful z) (r : LinkId) (G : ℕ → List LinkId) (f 
       go [] a =
           not_at_dest z r G u S (pack d h ts) (forward_by k (build z r G u S) (pack d h ts)) (λ w. ne (w ∙ a)) ∙
           ap (λ y. towards (build z r G u S) (pack d h ts) (forward_by k (build z r G u S) (pack d h ts)) y []) a
-      go (NodeSeg y ∷ us) a = ap (λ v. towards (build z r G u S) (pack d h ts) (forward_by k (build z r G u S) (pack d h ts)) v (NodeSeg y ∷ us)) a
-      go (LinkSeg y v ∷ us) a = absurd a
+      go (Node y ∷ us) a = ap (λ v. towards (build z r G u S) (pack d h ts) (forward_by k (build z r G u S) (pack d h ts)) v (Node y ∷ us)) a
+      go (Link y v ∷ us) a = absurd a
 
   -- to the next hop, which is not over the failed link
   to_next : (k n v : ℕ) (R R' : Option ℕ) (ts : List Segment) → ts ≡ tl → (u ≡ x → ⊥) → entry (build z r G u S) x ≡ Some v → joins r u v ≡ false → Falls R (z.cost u v) R' → Rem z r f P x tl n v tl R' →
@@ -182,11 +186,11 @@ module _ (z : Network) (g : Lawful z) (r : LinkId) (G : ℕ → List LinkId) (f 
   ]
 
   -- on a repair
-  aside_next : (k n a : ℕ) (R : Option ℕ) (w : Packet) (ts : List Segment) → w.dest ≡ d → w.hop_limit ≡ h → R ≡ Some a → Aside z r x tl u ts a →
+  aside_next : (k n a : ℕ) (R : Option ℕ) (w : Packet) (ts : List Segment) → w.destination ≡ d → w.hop_limit ≡ h → R ≡ Some a → Aside z r x tl u ts a →
       AimNext z r f P d x tl n u h R (forward_by (suc k) (build z r G u S) w ts) × (blocked_by (build z r G u S) u d (strip u ts) ≡ false)
   aside_next k n a R w ts wd wh i A = elim (cases_eq u A.p) [
     | inl e ↦
-        let us = LinkSeg A.p A.q ∷ tl in
+        let us = Link A.p A.q ∷ tl in
         let o = ap (λ l. strip u l) A.is ∙ (strip_own u A.p us e ∙ strip_link u A.p A.q tl) in
         let m : A.a ≡ 0 = same_some (distance z A.p A.p) A.a 0 (subst (λ v. distance z A.p v ≡ Some A.a) e A.to_p) (distance_self z g A.p) in
         let c : z.cost u A.q ≡ z.cost A.p A.q = ap (λ v. z.cost v A.q) e in
@@ -197,8 +201,8 @@ module _ (z : Network) (g : Lawful z) (r : LinkId) (G : ℕ → List LinkId) (f 
           ap (λ l. blocked_by (build z r G u S) u d l) o,
         )
     | inr e ↦
-        let us = NodeSeg A.p ∷ (LinkSeg A.p A.q ∷ tl) in
-        let o = ap (λ l. strip u l) A.is ∙ strip_other u A.p (LinkSeg A.p A.q ∷ tl) e in
+        let us = Node A.p ∷ (Link A.p A.q ∷ tl) in
+        let o = ap (λ l. strip u l) A.is ∙ strip_other u A.p (Link A.p A.q ∷ tl) e in
         let m = steady z g r A.p u A.a e A.clear_to A.to_p in
         let v = m.0 in
         let y = m.1.near in
@@ -253,7 +257,7 @@ module _ (z : Network) (g : Lawful z) (r : LinkId) (G : ℕ → List LinkId) (f 
       over_end v p j y =
           let m = repaired z g r u v x c j p q in
           let s = m.2 in
-          let us = NodeSeg m.0.p ∷ (LinkSeg m.0.p m.0.q ∷ tl) in
+          let us = Node m.0.p ∷ (Link m.0.p m.0.q ∷ tl) in
           let A : Aside z r x tl u us c =
           record { p = m.0.p; q = m.0.q; a = s.first; b = s.rest; is = refl; to_p = s.to_p; clear_to = s.clear_to; link = link_kept r z m.0.p m.0.q s.link_left; clear_over = s.clear_over; from_q = s.from_q; clear_from = s.clear_from; sum = sym s.cost } in
           goes_on (n - 1) (most (blocked_by (build z r G u S) u d (strip u ts)))

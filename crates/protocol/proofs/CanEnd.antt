@@ -1,4 +1,4 @@
--- As long as something can change, something that brings the end nearer can happen. Assumes nothing.
+-- As long as something can change, something that brings the end nearer can happen.
 use Rattle.std.proofs.Common.{◌≡◌, ℕ, zero, suc, ◌<◌, ◌≤◌, Bool, true, false, not, ◌&&◌, ltb, List, [], ◌∷◌, length, is_some, sym, refl, ap, ◌∙◌, subst, inl, inr, arith}
 use Rattle.std.proofs.lemmas.Bool.{both_ways, not-true, not-false, ltb-true, cases_lt, and_parts, cases_Bool, and_cases, not_from_false}
 use Rattle.protocol.specs.Failed.{after, Failed}

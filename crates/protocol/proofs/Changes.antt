@@ -1,37 +1,40 @@
--- The four ways in which a router changes: it learns, it keeps an early message, it no longer waits for a neighbour, it switches. Assumes nothing.
+-- The four ways in which a router changes: it learns, it keeps an early message, it no longer waits for a neighbour, it switches.
 use Rattle.std.proofs.Common.{◌≡◌, ℕ, zero, suc, ◌<◌, Bool, true, false, cond, not, ◌&&◌, eqb, ◌⊎◌, List, [], ◌∷◌, ◌++◌, Some, sym, refl, ap, ◌∙◌, subst, inl, inr, arith}
 use Rattle.std.proofs.lemmas.Bool.{both_ways, not-true, eqb-true, eq-eqb, and_parts, cases_eq, cases_Bool, and_from, and_left, and_right, or_cases, or_left, or_right, not_from_true, not_from_false}
-use Rattle.protocol.specs.Hearing.{waits_for, came_early, learn, tell, keep, unwait}
+use Rattle.protocol.specs.Hearing.{waits_for, came_early, tell}
 use Rattle.protocol.specs.Order.{InOrder}
 use Rattle.protocol.specs.System.{nth, go_on, System}
-use Rattle.protocol.specs.Router.{same_link, Early, Sent, Goes}
+use Rattle.protocol.specs.Router.{same_link, Goes}
 use Rattle.protocol.specs.Switching.{none_below, all_below, mark, after_switch, says}
-use Rattle.protocol.proofs.Said.{no_message, nth_new, down_to, over_to, tell_is, tell_has, say_is, say_has}
+use Rattle.protocol.proofs.Said.{no_message, nth_new, down_to, switched_for, over_to, tell_is, tell_has, say_is, say_has}
 use Rattle.protocol.proofs.Invariant.{done_of, put_at, put_all, put_own, Honest, EarlyOk, WaitsOk, OpenOk, Noted, SpokeBy, Newly, waits_more, change, Inv, Later, grows, order_same, told_same, spoke_old}
 use Rattle.protocol.proofs.Touched.{uses_on, dest_inside, waits_from}
-use Rattle.protocol.proofs.Shape.{build, over, knows, Shape, Unaware, Switching, Settled}
+use Rattle.protocol.proofs.Shape.{transition_of, build, over, knows, Shape, Unaware, Switching, Settled}
 use Rattle.protocol.proofs.Links.{joins_self}
 use Rattle.protocol.proofs.Enough.{Grows}
 use Rattle.theory.specs.NextHop.{next_hop, uses}
 use Rattle.theory.specs.Network.{joins, Network, Lawful, LinkId}
 use Rattle.theory.proofs.NextHops.{next_hop_is}
 use Rattle.theory.proofs.Without.{link_kept}
+use Rattle.types.specs.declared.message.Sent.{Sent}
+use Rattle.types.specs.declared.message.Switched.{Switched}
 
-early_more : (r : LinkId) (d u : ℕ) (e : Early) (es : List Early) → came_early r d u es ≡ true → came_early r d u (e ∷ es) ≡ true
+early_more : (r : LinkId) (d u : ℕ) (e : Switched) (es : List Switched) → came_early r d u es ≡ true → came_early r d u (e ∷ es) ≡ true
 unfolding came_early
-early_more r d u e es h = or_right (same_link r e.link && (eqb d e.dest && eqb u e.from)) (came_early r d u es) h
+early_more r d u e es h = or_right (same_link r e.link && (eqb d e.destination && eqb u e.from)) (came_early r d u es) h
 
 pub early_none : (r : LinkId) (d u : ℕ) → came_early r d u [] ≡ false
 unfolding came_early
 early_none r d u = refl
 
-pub early_new : (r : LinkId) (d u : ℕ) (es : List Early) → came_early r d u (record { from = u; dest = d; link = r } ∷ es) ≡ true
+pub early_new : (r : LinkId) (d u : ℕ) (es : List Switched) → came_early r d u (switched_for r u d ∷ es) ≡ true
 unfolding came_early
 early_new r d u es =
     or_left (same_link r r && (eqb d d && eqb u u)) (came_early r d u es)
     (and_from (same_link r r) (eqb d d && eqb u u) (joins_self r) (and_from (eqb d d) (eqb u u) (eq-eqb d d refl) (eq-eqb u u refl)))
 
-early_is : (r : LinkId) (d u d' u' : ℕ) (es : List Early) → came_early r d' u' (record { from = u; dest = d; link = r } ∷ es) ≡ true → ((d' ≡ d) × (u' ≡ u)) ⊎ (came_early r d' u' es ≡ true)
+early_is : (r : LinkId) (d u d' u' : ℕ) (es : List Switched) →
+    came_early r d' u' (switched_for r u d ∷ es) ≡ true → ((d' ≡ d) × (u' ≡ u)) ⊎ (came_early r d' u' es ≡ true)
 unfolding came_early
 early_is r d u d' u' es h = elim (or_cases (same_link r r && (eqb d' d && eqb u' u)) (came_early r d' u' es) h) [
   | inr t ↦ inr t
@@ -60,20 +63,20 @@ none_at (suc k) p h d b =
     elim (cases_eq d k) [ inl e ↦ subst (λ x. p x ≡ false) (sym e) (not-true (p k) t.0) | inr e ↦ none_at k p t.1 d (omega arith) ]
 
 -- the shapes after learning, keeping and hearing
-abbrev pub learned : Network → LinkId → ℕ → List Early → Shape
+abbrev pub learned : Network → LinkId → ℕ → List Switched → Shape
 learned z r w es = Switching (λ d. false) (λ d u. waits_for z r d w u && not (came_early r d u es))
 
-abbrev pub kept : LinkId → ℕ → ℕ → List Early → Shape
-kept r u d es = Unaware (record { from = u; dest = d; link = r } ∷ es)
+abbrev pub kept : LinkId → ℕ → ℕ → List Switched → Shape
+kept r u d es = Unaware (switched_for r u d ∷ es)
 
 abbrev pub unwaited : ℕ → ℕ → (ℕ → Bool) → (ℕ → ℕ → Bool) → Shape
 unwaited u d sw pe = Switching sw (λ e v. pe e v && not (eqb e d && eqb v u))
 
 module _ (z : Network) (g : Lawful z) (r : LinkId) (G : ℕ → List LinkId) (σ : System) (I : Inv z r G σ) (w : ℕ) (bw : w < z.n) (came : ℕ → Bool) (cs : (k : ℕ) → came k ≡ true → (m : Sent) × (nth σ.said k ≡ Some m)) where
-  pub learns : (es : List Early) → I.shape w ≡ Unaware es → Newly r σ came (put_at w (learned z r w es) I.shape) →
-      Later z r G σ I (go_on σ w came (Goes (learn r (build z r G w (Unaware es))) (tell z r w z.n)))
+  pub learns : (es : List Switched) → I.shape w ≡ Unaware es → Newly r σ came (put_at w (learned z r w es) I.shape) →
+      Later z r G σ I (go_on σ w came (Goes (build z r G w (learned z r w es)) (tell z r w z.n)))
   learns es was nw =
-      change z r G σ I w (Unaware es) (learned z r w es) (learn r (build z r G w (Unaware es))) (tell z r w z.n) came refl
+      change z r G σ I w (Unaware es) (learned z r w es) (tell z r w z.n) came
       (record {
         was = was;
         inside = bw;
@@ -98,16 +101,16 @@ module _ (z : Network) (g : Lawful z) (r : LinkId) (G : ℕ → List LinkId) (σ
         spoke = λ d v h. absurd (both_ways false refl h);
       })
 
-  pub keeps : (es : List Early) → I.shape w ≡ Unaware es → (u d : ℕ) → over (I.shape u) d ≡ true → Newly r σ came (put_at w (kept r u d es) I.shape) →
-      Later z r G σ I (go_on σ w came (Goes (keep u d r (build z r G w (Unaware es))) []))
+  pub keeps : (es : List Switched) → I.shape w ≡ Unaware es → (u d : ℕ) → over (I.shape u) d ≡ true → Newly r σ came (put_at w (kept r u d es) I.shape) →
+      Later z r G σ I (go_on σ w came (Goes (build z r G w (kept r u d es)) []))
   keeps es was u d o nw =
-      change z r G σ I w (Unaware es) (kept r u d es) (keep u d r (build z r G w (Unaware es))) [] came refl
+      change z r G σ I w (Unaware es) (kept r u d es) [] came
       (record {
         was = was;
         inside = bw;
         keeps_done = λ e h. h;
         keeps_known = λ h. h;
-        keeps_noted = λ e v h. early_more r e v (record { from = u; dest = d; link = r }) es h;
+        keeps_noted = λ e v h. early_more r e v (switched_for r u d) es h;
         honest = λ k m e. absurd (no_message k m e);
         within = λ k m e. absurd (no_message k m e);
         early = λ e v h.
@@ -125,9 +128,9 @@ module _ (z : Network) (g : Lawful z) (r : LinkId) (G : ℕ → List LinkId) (σ
       })
 
   pub unwaits : (sw : ℕ → Bool) (pe : ℕ → ℕ → Bool) → I.shape w ≡ Switching sw pe → (u d : ℕ) → over (I.shape u) d ≡ true → Newly r σ came (put_at w (unwaited u d sw pe) I.shape) →
-      Later z r G σ I (go_on σ w came (Goes (unwait u d (build z r G w (Switching sw pe))) []))
+      Later z r G σ I (go_on σ w came (Goes (build z r G w (unwaited u d sw pe)) []))
   unwaits sw pe was u d o nw =
-      change z r G σ I w (Switching sw pe) (unwaited u d sw pe) (unwait u d (build z r G w (Switching sw pe))) [] came refl
+      change z r G σ I w (Switching sw pe) (unwaited u d sw pe) [] came
       (record {
         was = was;
         inside = bw;
@@ -177,7 +180,7 @@ module _ (z : Network) (g : Lawful z) (r : LinkId) (G : ℕ → List LinkId) (σ
       EarlyOk r (put_at w S I.shape) S → (Grows (done_of I.shape) (done_of (put_at w S I.shape)) → WaitsOk z r (put_at w S I.shape) w S) → OpenOk z r w S →
       Later z r G σ I (go_on σ w σ.came (Goes (build z r G w S) (says d r (build z r G w (Switching sw pe)))))
   switched_to S back forth kn nt ea wa op =
-      change z r G σ I w (Switching sw pe) S (build z r G w S) new σ.came refl
+      change z r G σ I w (Switching sw pe) S new σ.came
       (record {
         was = was;
         inside = bw;
@@ -230,11 +233,14 @@ module _ (z : Network) (g : Lawful z) (r : LinkId) (G : ℕ → List LinkId) (σ
             nth_new σ.said new 0 (over_to r w v e) (say_has z r w d v (subst (λ y. uses z r y w ≡ true) x t) (subst (λ y. next_hop z y w ≡ Some v) x p) j ∙ ap (λ y. Some (over_to r w v y)) (sym x))
       ]
 
-  pub switches : Later z r G σ I (go_on σ w σ.came (Goes (after_switch d r (build z r G w (Switching sw pe))) (says d r (build z r G w (Switching sw pe)))))
+  pub switches :
+      let s = build z r G w (Switching sw pe) in
+      Later z r G σ I (go_on σ w σ.came (Goes (after_switch d (transition_of r sw pe) s) (says d r s)))
   switches = go (all_below z.n (mark d sw)) refl
     where
       go : (b : Bool) → all_below z.n (mark d sw) ≡ b →
-          Later z r G σ I (go_on σ w σ.came (Goes (cond b (build z r G w Settled) (build z r G w (Switching (mark d sw) pe))) (says d r (build z r G w (Switching sw pe)))))
+          let s' = cond b (build z r G w Settled) (build z r G w (Switching (mark d sw) pe)) in
+          Later z r G σ I (go_on σ w σ.came (Goes s' (says d r (build z r G w (Switching sw pe)))))
       go true e = switched_to Settled (λ x b _. all_at z.n (mark d sw) e x b) (λ x _. refl) refl (λ x u h. tt) tt (λ more. tt) tt
       go false e =
           switched_to (Switching (mark d sw) pe) (λ x b h. h) (λ x h. h) refl (λ x u h. h) tt

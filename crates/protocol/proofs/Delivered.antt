@@ -1,12 +1,11 @@
--- Every packet arrives: after a failure, and where no failure is known. Assumes nothing.
+-- Every packet arrives: after a failure, and where no failure is known.
 use Rattle.std.proofs.Common.{◌≡◌, ℕ, suc, ◌+◌, ◌*◌, ◌<◌, ◌≤◌, Bool, true, false, ◌||◌, eqb, List, [], ◌∷◌, length, is_some, Some, None, Option, sym, refl, ap, ◌∙◌, subst, inl, inr, mul-le-mul_right, arith}
 use Rattle.std.proofs.lemmas.Bool.{both_ways, cases_lt, cases_Bool}
 use Rattle.protocol.specs.Hearing.{hear}
 use Rattle.protocol.specs.Delivery.{Reachable, enough_hops, Safe, Delivery, WithinLimit, repairs, RepairedOnce, CalmDelivery, Deliverable}
 use Rattle.protocol.specs.Failed.{Stale, after, Done, Failed}
 use Rattle.protocol.specs.System.{nth, go_on, arrive, step, run, moves, System, Flight, NoPacket, UnderWay, Delivered, Dropped, Event, Arrive, Switch, Put, Hop}
-use Rattle.protocol.specs.Router.{idle, Router, Sent, NoFailure, Reply}
-use Rattle.protocol.specs.Packet.{Segment, NodeSeg, LinkSeg}
+use Rattle.protocol.specs.Router.{idle, Router, Reply}
 use Rattle.protocol.specs.Switching.{switch_in, switch}
 use Rattle.protocol.proofs.Invariant.{done_of}
 use Rattle.protocol.proofs.Flights.{Fly, fly_few, fly_safe, fly_ends, run_fly, take_off, Routed, Landed, Steps}
@@ -20,6 +19,9 @@ use Rattle.theory.specs.Network.{joins, without, Network, Lawful, LinkId}
 use Rattle.theory.proofs.NextHops.{next_hop_is}
 use Rattle.theory.proofs.Joins.{joins_ends}
 use Rattle.theory.proofs.Without.{cost_left, untouched}
+use Rattle.types.specs.declared.message.Sent.{Sent}
+use Rattle.types.specs.declared.segment.Segment.{Segment}
+use Rattle.types.specs.declared.segment.Segment.TheVariants.{Node, Link}
 
 pub routed : (z : Network) (r : LinkId) (G : ℕ → List LinkId) (σ : System) (H : Held z r G σ) → Routed z r G H.inv.shape σ.routers
 routed z r G σ H = record { is = H.inv.is; order = H.inv.order; ends = λ u v b j. H.ends u v j }
@@ -76,15 +78,15 @@ absent_unused z g d u = elim (cases_Bool (uses z (absent z) d u)) [
 
 absent_reached : (z : Network) → Lawful z → (d u : ℕ) (ss : List Segment) → Reachable z d u ss → Reachable (without (absent z) z) d u ss
 absent_reached z g d u [] h = ap is_some (untouched z g (absent z) d u (absent_unused z g d u)).same_distance ∙ h
-absent_reached z g d u (NodeSeg x ∷ ss) h = (ap is_some (untouched z g (absent z) x u (absent_unused z g x u)).same_distance ∙ h.0, absent_reached z g d x ss h.1)
-absent_reached z g d u (LinkSeg a b ∷ ss) h =
+absent_reached z g d u (Node x ∷ ss) h = (ap is_some (untouched z g (absent z) x u (absent_unused z g x u)).same_distance ∙ h.0, absent_reached z g d x ss h.1)
+absent_reached z g d u (Link a b ∷ ss) h =
     let j : joins (absent z) a b ≡ false = elim (cases_Bool (joins (absent z) a b)) [ inr f ↦ f | inl t ↦ absurd (absent_not z a b (g.within a b h.1).0 t) ] in
     (h.0, omega (arith, h.1, cost_left (absent z) z a b j), absent_reached z g d b ss h.2)
 
 -- a calm system stays calm, and no router takes a link out
 record StaysCalm (z : Network) (G : ℕ → List LinkId) (σ : System) : Type 0 where
   nothing : (u : ℕ) → u < z.n → σ.routers u ≡ idle z (G u) u
-  others : (u : ℕ) → z.n ≤ u → (σ.routers u).failure ≡ NoFailure
+  others : (u : ℕ) → z.n ≤ u → (σ.routers u).transition ≡ None
   old : (k : ℕ) (m : Sent) → nth σ.said k ≡ Some m → (m.to < z.n) × Stale z m.message
 
 calm_ignores : (z : Network) (G : ℕ → List LinkId) (σ : System) → StaysCalm z G σ → (u : ℕ) (came : ℕ → Bool) (R : Reply) → Ignored R → StaysCalm z G (go_on σ u came R)
@@ -100,8 +102,9 @@ calm_arrive z G σ C k (Some m) e =
 calm_step : (z : Network) (G : ℕ → List LinkId) (e : Event) (σ : System) → StaysCalm z G σ → StaysCalm z G (step e σ)
 calm_step z G (Arrive k) σ C = calm_arrive z G σ C k (nth σ.said k) refl
 calm_step z G (Switch u d) σ C =
-    let f : (σ.routers u).failure ≡ NoFailure = elim (cases_lt u z.n) [ inl b ↦ ap (λ (s : Router). s.failure) (C.nothing u b) | inr b ↦ C.others u b ] in
-    calm_ignores z G σ C u σ.came (switch (σ.routers u) d) (subst (λ x. Ignored (switch_in (σ.routers u) d x)) (sym f) tt)
+    let n : (σ.routers u).transition ≡ None =
+    elim (cases_lt u z.n) [ inl b ↦ ap (λ (s : Router). s.transition) (C.nothing u b) | inr b ↦ C.others u b ] in
+    calm_ignores z G σ C u σ.came (switch (σ.routers u) d) (subst (λ o. Ignored (switch_in (σ.routers u) d o)) (sym n) tt)
 calm_step z G (Put q u p) σ C = record { nothing = C.nothing; others = C.others; old = C.old }
 calm_step z G (Hop q) σ C = record { nothing = C.nothing; others = C.others; old = C.old }
 
@@ -119,7 +122,7 @@ plain_few : (z : Network) → Lawful z → (f : Done) (m d B C h j : ℕ) (fl : 
 plain_few z g f m d B C h j NoPacket x = x
 plain_few z g f m d B C h j (UnderWay u c p) x = go x.7
   where
-    go : Ready z (absent z) f m p.dest x.0 x.1 u p.segments → length p.segments ≤ m
+    go : Ready z (absent z) f m p.destination x.0 x.1 u p.segments → length p.segments ≤ m
     go (plain le y) = le
     go (on_repair y) = absurd (both_ways (uses z (absent z) y.aim y.from) (absent_unused z g y.aim y.from) y.touched)
 plain_few z g f m d B C h j (Delivered u c) x = x.0

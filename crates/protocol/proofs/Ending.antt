@@ -1,12 +1,11 @@
--- When nothing more happens, all that can know have switched for all destinations. Assumes nothing.
+-- When nothing more happens, all that can know have switched for all destinations.
 use Rattle.std.proofs.Common.{◌≡◌, ℕ, zero, suc, ◌<◌, Bool, true, false, ◌⊎◌, List, [], ◌∷◌, is_some, Some, sym, refl, ap, ◌∙◌, subst, inl, inr, arith}
-use Rattle.std.specs.List.{flat_map as joined}
 use Rattle.std.proofs.lemmas.Bool.{both_ways, cases_Bool, and_from}
 use Rattle.protocol.specs.Hearing.{waits_for}
 use Rattle.protocol.specs.Failed.{Stale, after}
 use Rattle.protocol.specs.Progress.{Progress, CalmAgain, CalmFirst, Quiet}
 use Rattle.protocol.specs.System.{System}
-use Rattle.protocol.specs.Router.{has_link, Router, Message, LinkDown, Switched}
+use Rattle.protocol.specs.Router.{has_link, Router}
 use Rattle.protocol.specs.Switching.{all_below, may}
 use Rattle.protocol.proofs.Said.{no_message, down_to, over_to}
 use Rattle.protocol.proofs.Invariant.{Honest, OpenOk, Noted}
@@ -23,6 +22,9 @@ use Rattle.theory.proofs.Joins.{joins_symmetric}
 use Rattle.theory.proofs.Without.{cost_left, lawful_without}
 use Rattle.theory.proofs.Using.{first_link, one_end}
 use Rattle.theory.proofs.HopPaths.{by_next_hops, stop_end}
+use Rattle.types.specs.declared.message.Message.{Message}
+use Rattle.types.specs.declared.message.Message.TheVariants.{LinkDown}
+use Rattle.types.specs.declared.message.Message.TheVariants as message
 
 all_from : (k : ℕ) (p : ℕ → Bool) → ((u : ℕ) → u < k → p u ≡ true) → all_below k p ≡ true
 unfolding all_below
@@ -129,8 +131,8 @@ calm_again z r ω F es Q joined = (
     stale : (v w : ℕ) (m : Message) → Honest z r H.inv.shape v w m ⊎ Stale z m → Stale (without r z) m
     stale v w (LinkDown l) (inl h) = ap (λ x. has_link (without r z) x) h ∙ link_gone z r
     stale v w (LinkDown l) (inr h) = still_gone z r l h
-    stale v w (Switched u d l) (inl h) = ap (λ x. has_link (without r z) x) h.0 ∙ link_gone z r
-    stale v w (Switched u d l) (inr h) = still_gone z r l h
+    stale v w (message.Switched m) (inl h) = ap (λ x. has_link (without r z) x) h.0 ∙ link_gone z r
+    stale v w (message.Switched m) (inr h) = still_gone z r m.link h
 
 pub calm_first : CalmFirst
 calm_first z = record { gone = λ u. []; nothing = λ u b. refl; others = λ u b. refl; old = λ k m e. absurd (no_message k m e); came = λ k h. absurd (both_ways false refl h) }

@@ -1,14 +1,15 @@
--- How many hops a packet still takes at most, and how many repairs are put on it, whoever switches meanwhile. Assumes nothing.
+-- How many hops a packet still takes at most, and how many repairs are put on it, whoever switches meanwhile.
 use Rattle.std.proofs.Common.{◌≡◌, ℕ, suc, ◌+◌, ◌*◌, ◌<◌, ◌≤◌, Bool, true, false, not, ◌&&◌, List, [], ◌∷◌, length, is_some, Some, ap, inl, inr, mul-le-mul_right, arith}
 use Rattle.std.proofs.lemmas.Bool.{both_ways, not-true, and_parts, cases_Bool, and_from, and_right, not_from_true, not_from_false}
 use Rattle.protocol.specs.Delivery.{Reachable, enough_hops}
 use Rattle.protocol.specs.Failed.{Done}
-use Rattle.protocol.specs.Packet.{Segment, NodeSeg, LinkSeg}
 use Rattle.theory.specs.NextHop.{uses}
 use Rattle.theory.specs.Distance.{distance}
 use Rattle.theory.specs.Network.{joins, without, Network, LinkId}
 use Rattle.theory.proofs.Distances.{count, count_most, count_le, count_lt}
 use Rattle.theory.proofs.HopPaths.{hops, hops_most}
+use Rattle.types.specs.declared.segment.Segment.{Segment}
+use Rattle.types.specs.declared.segment.Segment.TheVariants.{Node, Link}
 
 -- who has switched may be more
 abbrev pub Grows : Done → Done → Type 0
@@ -86,20 +87,20 @@ module _ (z : Network) (r : LinkId) where
 -- the packet comes to its stations one after the other
 abbrev pub Plain : Network → LinkId → Done → ℕ → ℕ → ℕ → ℕ → List Segment → Type 0
 Plain z r f d K R u [] = (is_some (distance (without r z) d u) ≡ true) × Fits z r f d 1 0 K R u
-Plain z r f d K R u (NodeSeg x ∷ ss) =
+Plain z r f d K R u (Node x ∷ ss) =
     (is_some (distance (without r z) x u) ≡ true) × Reachable (without r z) d x ss × Fits z r f x (enough_hops z.n (length ss)) (suc (length ss)) K R u
-Plain z r f d K R u (LinkSeg a b ∷ ss) =
+Plain z r f d K R u (Link a b ∷ ss) =
     (a ≡ u) × (0 < (without r z).cost a b) × Reachable (without r z) d b ss × (suc (enough_hops z.n (length ss)) ≤ K) × (suc (length ss) ≤ R)
 
 pub plain_from : (z : Network) (r : LinkId) (f : Done) (d K R u : ℕ) (ss : List Segment) → Reachable (without r z) d u ss → enough_hops z.n (length ss) ≤ K → suc (length ss) ≤ R → Plain z r f d K R u ss
 plain_from z r f d K R u [] h le l = (h, fits_any z r f d 1 0 K R u l (omega arith))
-plain_from z r f d K R u (NodeSeg x ∷ ss) h le l = (h.0, h.1, fits_any z r f x (enough_hops z.n (length ss)) (suc (length ss)) K R u l (omega arith))
-plain_from z r f d K R u (LinkSeg a b ∷ ss) h le l = (h.0, h.1, h.2, omega arith, omega arith)
+plain_from z r f d K R u (Node x ∷ ss) h le l = (h.0, h.1, fits_any z r f x (enough_hops z.n (length ss)) (suc (length ss)) K R u l (omega arith))
+plain_from z r f d K R u (Link a b ∷ ss) h le l = (h.0, h.1, h.2, omega arith, omega arith)
 
 plain_more : (z : Network) (r : LinkId) (f g : Done) → Grows f g → (d K R u : ℕ) → u < z.n → (ss : List Segment) → Plain z r f d K R u ss → Plain z r g d K R u ss
 plain_more z r f g more d K R u b [] h = (h.0, fits_more z r f g more d 1 0 K R u b h.1)
-plain_more z r f g more d K R u b (NodeSeg x ∷ ss) h = (h.0, h.1, fits_more z r f g more x (enough_hops z.n (length ss)) (suc (length ss)) K R u b h.2)
-plain_more z r f g more d K R u b (LinkSeg x y ∷ ss) h = h
+plain_more z r f g more d K R u b (Node x ∷ ss) h = (h.0, h.1, fits_more z r f g more x (enough_hops z.n (length ss)) (suc (length ss)) K R u b h.2)
+plain_more z r f g more d K R u b (Link x y ∷ ss) h = h
 
 -- or it is on a repair, since some path uses the link: to p, over the link p-q, and on by a path that does not
 pub record OnRepair (z : Network) (r : LinkId) (m d K R u : ℕ) (ss : List Segment) : Type 0 where
@@ -110,7 +111,7 @@ pub record OnRepair (z : Network) (r : LinkId) (m d K R u : ℕ) (ss : List Segm
   pub q : ℕ
   pub c : ℕ
   pub rest : List Segment
-  pub is : ss ≡ NodeSeg p ∷ (LinkSeg p q ∷ rest)
+  pub is : ss ≡ Node p ∷ (Link p q ∷ rest)
   pub to_p : distance z p u ≡ Some c
   pub clear_to : uses z r p u ≡ false
   pub link : 0 < z.cost p q
@@ -140,8 +141,8 @@ enough_some n k = let a : 1 * (2 * n * n + 4 * n + 1) ≤ suc k * (2 * n * n + 4
 
 plain_some : (z : Network) (r : LinkId) (f : Done) (d K R u : ℕ) (ss : List Segment) → Plain z r f d K R u ss → 1 ≤ K
 plain_some z r f d K R u [] h = (fits_base h.1).0
-plain_some z r f d K R u (NodeSeg x ∷ ss) h = omega (arith, (fits_base h.2).0, enough_some z.n (length ss))
-plain_some z r f d K R u (LinkSeg a b ∷ ss) h = omega (arith, h.3)
+plain_some z r f d K R u (Node x ∷ ss) h = omega (arith, (fits_base h.2).0, enough_some z.n (length ss))
+plain_some z r f d K R u (Link a b ∷ ss) h = omega (arith, h.3)
 
 -- and at least one hop
 pub ready_some : {z : Network} {r : LinkId} {f : Done} {m d K R u : ℕ} {ss : List Segment} → Ready z r f m d K R u ss → 1 ≤ K

@@ -1,4 +1,4 @@
--- A packet that can be delivered stays so from event to event, and comes nearer with each of its hops. Assumes nothing.
+-- A packet that can be delivered stays so from event to event, and comes nearer with each of its hops.
 use Rattle.std.proofs.Common.{◌≡◌, ℕ, zero, suc, ◌+◌, ◌<◌, ◌≤◌, Bool, true, false, ◌&&◌, ◌||◌, T, eqb, List, [], ◌∷◌, length, Some, None, Option, sym, refl, ap, ◌∙◌, subst, inl, inr, arith}
 use Rattle.std.proofs.lemmas.Bool.{eqb-true, cases_Bool, and_left, cond-true, cond-false}
 use Rattle.protocol.specs.Hearing.{hear}
@@ -6,8 +6,8 @@ use Rattle.protocol.specs.Delivery.{enough_hops, Safe, Arrived, aim_at, blocked,
 use Rattle.protocol.specs.Failed.{Done}
 use Rattle.protocol.specs.Order.{InOrder}
 use Rattle.protocol.specs.System.{nth, go_on, arrive, decided, moved, put_on, step, run, count_if, moves, System, Flight, NoPacket, UnderWay, Delivered, Dropped, Event, Arrive, Switch, Put, Hop}
-use Rattle.protocol.specs.Router.{Router, Sent, Reply, Refused, Stays, Goes}
-use Rattle.protocol.specs.Packet.{strip, forward, Packet, Segment}
+use Rattle.protocol.specs.Router.{Router, Reply, Refused, Stays, Goes}
+use Rattle.protocol.specs.Packet.{forward}
 use Rattle.protocol.specs.Switching.{switch}
 use Rattle.protocol.proofs.Forwarding.{blocked_by}
 use Rattle.protocol.proofs.OneHop.{Hopped, Next, arrives, sends_on, ready_next}
@@ -15,6 +15,10 @@ use Rattle.protocol.proofs.Invariant.{done_of}
 use Rattle.protocol.proofs.Shape.{build, knows, me_is, Shape}
 use Rattle.protocol.proofs.Enough.{Grows, plain_from, ready_more, ready_few, ready_some, Ready, plain}
 use Rattle.theory.specs.Network.{joins, without, Network, Lawful, LinkId}
+use Rattle.types.specs.Packet.{Packet}
+use Rattle.types.specs.Segments.{strip}
+use Rattle.types.specs.declared.message.Sent.{Sent}
+use Rattle.types.specs.declared.segment.Segment.{Segment}
 
 goes_flights : (σ : System) (u : ℕ) (came : ℕ → Bool) (R : Reply) → (go_on σ u came R).flights ≡ σ.flights
 goes_flights σ u came (Refused k) = refl
@@ -75,7 +79,7 @@ moves_none q = refl
 abbrev pub Fly : Network → LinkId → Done → ℕ → ℕ → ℕ → ℕ → ℕ → ℕ → Flight → Type 0
 Fly z r f m d B C h j NoPacket = ⊥
 Fly z r f m d B C h j (UnderWay u c p) =
-    (K : ℕ) × (R : ℕ) × (K + h ≤ B) × (R + j ≤ C) × (u < z.n) × (p.dest ≡ d) × (K ≤ p.hop_limit) × Ready z r f m p.dest K R u p.segments
+    (K : ℕ) × (R : ℕ) × (K + h ≤ B) × (R + j ≤ C) × (u < z.n) × (p.destination ≡ d) × (K ≤ p.hop_limit) × Ready z r f m p.destination K R u p.segments
 Fly z r f m d B C h j (Delivered u c) = (u ≡ d) × (j ≤ C)
 Fly z r f m d B C h j (Dropped u c k) = ⊥
 
@@ -124,7 +128,7 @@ fly_hop z g r G sh f W m d B C h j few (UnderWay u c p) x = at x.0 x.2 x.6 x.7
     s = build z r G u (sh u)
 
     blocks : Bool
-    blocks = blocked_by (build z r G u (sh u)) u p.dest (strip u p.segments)
+    blocks = blocked_by (build z r G u (sh u)) u p.destination (strip u p.segments)
 
     used : (b : Bool) (R' : ℕ) → count_if b R' ≤ x.1 → R' + count_if b j ≤ C
     used true R' le = omega (arith, x.3)
@@ -141,11 +145,14 @@ fly_hop z g r G sh f W m d B C h j few (UnderWay u c p) x = at x.0 x.2 x.6 x.7
         land (sends_on v ts bv y q) =
             subst (λ D. Fly z r (done_of sh) m d B C (suc h) (count_if blocks j) (decided s u c D)) (sym y) (K, w.R', omega arith, used blocks w.R' w.paid, bv, x.5, omega arith, q)
 
-    at : (K : ℕ) → K + h ≤ B → K ≤ p.hop_limit → Ready z r (done_of sh) m p.dest K x.1 u p.segments → Fly z r (done_of sh) m d B C (suc h) (count_if (repairs_on f (UnderWay u c p)) j) (decided (f u) u c (forward (f u) p))
+    at : (K : ℕ) → K + h ≤ B → K ≤ p.hop_limit → Ready z r (done_of sh) m p.destination K x.1 u p.segments →
+        Fly z r (done_of sh) m d B C (suc h) (count_if (repairs_on f (UnderWay u c p)) j) (decided (f u) u c (forward (f u) p))
     at zero a b q = absurd (omega (arith, ready_some q))
     at (suc K) a b q =
-        subst (λ (y : Router). Fly z r (done_of sh) m d B C (suc h) (count_if (blocked y (aim_at y.me p.dest (strip y.me p.segments))) j) (decided y u c (forward y p))) (sym (W.is u x.4))
-        (subst (λ y. Fly z r (done_of sh) m d B C (suc h) (count_if (blocked s (aim_at y p.dest (strip y p.segments))) j) (decided s u c (forward s p))) (sym (me_is z r G u (sh u)))
+        let fly = λ (y : Router) (v : ℕ).
+        Fly z r (done_of sh) m d B C (suc h) (count_if (blocked y (aim_at v p.destination (strip v p.segments))) j) (decided y u c (forward y p)) in
+        subst (λ (y : Router). fly y y.me) (sym (W.is u x.4))
+        (subst (λ v. fly s v) (sym (me_is z r G u (sh u)))
         (go K a b (ready_next z g r G (done_of sh) m few p (omega arith) u (sh u) (λ e. refl) (λ v e. W.ends u v x.4 e) W.order 1 K x.1 p.segments q)))
 
 -- one event

@@ -1,17 +1,21 @@
--- What holds in every state after the failure of a link: messages are honest, what came was heard, and the order is kept. Assumes nothing.
-use Rattle.std.proofs.Common.{◌≡◌, ℕ, ◌<◌, ◌≤◌, Bool, true, false, cond, eqb, ◌⊎◌, List, ◌++◌, Some, sym, refl, ap, ◌∙◌, subst, inl, inr, arith}
+-- What holds in every state after the failure of a link: messages are honest, what came was heard, and the order is kept.
+use Rattle.std.proofs.Common.{◌≡◌, ℕ, ◌<◌, ◌≤◌, Bool, true, false, cond, eqb, ◌⊎◌, List, ◌++◌, Some, None, sym, refl, ap, ◌∙◌, subst, inl, inr, arith}
 use Rattle.std.proofs.lemmas.Bool.{eqb-true, eq-eqb, ne_eqb, cond-true, cond-false, cond_both}
 use Rattle.protocol.specs.Hearing.{waits_for, came_early}
 use Rattle.protocol.specs.Failed.{Stale, Done}
 use Rattle.protocol.specs.Order.{InOrder}
 use Rattle.protocol.specs.System.{nth, set_router, go_on, System, Flight}
-use Rattle.protocol.specs.Router.{same_link, Router, Sent, NoFailure, Message, LinkDown, Switched, Goes}
+use Rattle.protocol.specs.Router.{same_link, Router, Goes}
 use Rattle.protocol.specs.Switching.{all_below}
 use Rattle.protocol.proofs.Said.{nth_old, nth_either, down_to, over_to}
 use Rattle.protocol.proofs.Shape.{build, over, knows, Shape, Unaware, Switching, Settled}
 use Rattle.protocol.proofs.Enough.{Grows}
 use Rattle.theory.specs.NextHop.{same, next_hop, uses}
 use Rattle.theory.specs.Network.{joins, without, Network, LinkId}
+use Rattle.types.specs.declared.message.Message.{Message}
+use Rattle.types.specs.declared.message.Message.TheVariants.{LinkDown}
+use Rattle.types.specs.declared.message.Message.TheVariants as message
+use Rattle.types.specs.declared.message.Sent.{Sent}
 
 abbrev pub done_of : (ℕ → Shape) → Done
 done_of sh = λ d u. over (sh u) d
@@ -28,7 +32,8 @@ put_own w S sh = cond-true (eqb w w) S (sh w) (eq-eqb w w refl)
 -- a message is about the failed link; who says that it has switched has, and is waited for
 abbrev pub Honest : Network → LinkId → (ℕ → Shape) → ℕ → ℕ → Message → Type 0
 Honest z r sh from to (LinkDown l) = l ≡ r
-Honest z r sh from to (Switched u d l) = (l ≡ r) × (from ≡ u) × (over (sh u) d ≡ true) × (waits_for z r d to u ≡ true)
+Honest z r sh from to (message.Switched m) =
+    (m.link ≡ r) × (from ≡ m.from) × (over (sh m.from) m.destination ≡ true) × (waits_for z r m.destination to m.from ≡ true)
 
 -- whose message came early has switched
 abbrev pub EarlyOk : LinkId → (ℕ → Shape) → Shape → Type 0
@@ -56,7 +61,7 @@ Noted r Settled d u = Unit {0}
 
 abbrev pub Taken : LinkId → Shape → Message → Type 0
 Taken r S (LinkDown l) = same_link r l ≡ true → knows S ≡ true
-Taken r S (Switched u d l) = same_link r l ≡ true → Noted r S d u
+Taken r S (message.Switched m) = same_link r m.link ≡ true → Noted r S m.destination m.from
 
 -- who knows has told its neighbours
 abbrev pub ToldBy : Network → LinkId → List Sent → ℕ → Shape → Type 0
@@ -69,7 +74,7 @@ SpokeBy z r said u S = (d v : ℕ) → over S d ≡ true → uses z r d u ≡ tr
 pub record Inv (z : Network) (r : LinkId) (G : ℕ → List LinkId) (σ : System) : Type 0 where
   pub shape : ℕ → Shape
   pub is : (u : ℕ) → u < z.n → σ.routers u ≡ build z r G u (shape u)
-  pub others : (u : ℕ) → z.n ≤ u → (σ.routers u).failure ≡ NoFailure
+  pub others : (u : ℕ) → z.n ≤ u → (σ.routers u).transition ≡ None
   pub sound : (k : ℕ) (m : Sent) → nth σ.said k ≡ Some m → Honest z r shape m.from m.to m.message ⊎ Stale z m.message
   pub inside : (k : ℕ) (m : Sent) → nth σ.said k ≡ Some m → m.to < z.n
   pub nodes : (u : ℕ) → knows (shape u) ≡ true → u < z.n
@@ -94,7 +99,7 @@ Newly r σ came sh = (k : ℕ) (m : Sent) → nth σ.said k ≡ Some m → came 
 
 honest_more : (z : Network) (r : LinkId) (sh th : ℕ → Shape) → Grows (done_of sh) (done_of th) → (from to : ℕ) (m : Message) → Honest z r sh from to m → Honest z r th from to m
 honest_more z r sh th more from to (LinkDown l) h = h
-honest_more z r sh th more from to (Switched u d l) h = (h.0, h.1, more d u h.2, h.3)
+honest_more z r sh th more from to (message.Switched m) h = (h.0, h.1, more m.destination m.from h.2, h.3)
 
 early_more : (r : LinkId) (sh th : ℕ → Shape) → Grows (done_of sh) (done_of th) → (S : Shape) → EarlyOk r sh S → EarlyOk r th S
 early_more r sh th more (Unaware es) h = λ d u e. more d u (h d u e)
@@ -108,7 +113,7 @@ waits_more z r sh th more v Settled h = tt
 
 taken_more : (r : LinkId) (S S' : Shape) → (knows S ≡ true → knows S' ≡ true) → ((d u : ℕ) → Noted r S d u → Noted r S' d u) → (m : Message) → Taken r S m → Taken r S' m
 taken_more r S S' kn nt (LinkDown l) h = λ x. kn (h x)
-taken_more r S S' kn nt (Switched u d l) h = λ x. nt d u (h x)
+taken_more r S S' kn nt (message.Switched m) h = λ x. nt m.destination m.from (h x)
 
 -- no router changes
 pub unchanged : (z : Network) (r : LinkId) (G : ℕ → List LinkId) (σ : System) (I : Inv z r G σ) (came : ℕ → Bool) (fl : ℕ → Flight) → ((k : ℕ) → came k ≡ true → (m : Sent) × (nth σ.said k ≡ Some m)) → Newly r σ came I.shape →
@@ -176,14 +181,16 @@ module _ (z : Network) (r : LinkId) (G : ℕ → List LinkId) (σ : System) (I :
       let k = I.spoke w d v (subst (λ X. over X d ≡ true) (sym was) h) t p j in
       (k.0, nth_old σ.said new k.0 (over_to r w v d) k.1)
 
-pub change : (z : Network) (r : LinkId) (G : ℕ → List LinkId) (σ : System) (I : Inv z r G σ) (w : ℕ) (S0 S : Shape) (s : Router) (new : List Sent) (came : ℕ → Bool) → s ≡ build z r G w S → Change z r G σ I w S0 S new came →
-    Later z r G σ I (go_on σ w came (Goes s new))
-change z r G σ I w S0 S s new came is-s C =
+pub change : (z : Network) (r : LinkId) (G : ℕ → List LinkId) (σ : System) (I : Inv z r G σ) (w : ℕ) (S0 S : Shape) (new : List Sent) (came : ℕ → Bool) →
+    Change z r G σ I w S0 S new came → Later z r G σ I (go_on σ w came (Goes (build z r G w S) new))
+change z r G σ I w S0 S new came C =
     record {
       inv = record {
         shape = sh;
         is = is';
-        others = λ v b. ap (λ (x : Router). x.failure) (cond-false (eqb v w) s (σ.routers v) (ne_eqb v w (λ e. omega (arith, C.inside)))) ∙ I.others v b;
+        others = λ v b.
+            ap (λ (x : Router). x.transition) (cond-false (eqb v w) (build z r G w S) (σ.routers v) (ne_eqb v w (λ e. omega (arith, C.inside)))) ∙
+            I.others v b;
         sound = sound';
         inside = λ k m e. elim (nth_either σ.said new k m e) [ inl q ↦ I.inside k m q | inr q ↦ C.within q.0 m q.1 ];
         nodes = λ u. put_all (λ v X. knows X ≡ true → v < z.n) w S I.shape (λ _. C.inside) u (I.nodes u);
@@ -208,11 +215,11 @@ change z r G σ I w S0 S s new came is-s C =
     more : Grows (done_of I.shape) (done_of (put_at w S I.shape))
     more = grows z r G σ I w S0 S C.was C.keeps_done
 
-    is' : (v : ℕ) → v < z.n → set_router w s σ.routers v ≡ build z r G v (put_at w S I.shape v)
+    is' : (v : ℕ) → v < z.n → set_router w (build z r G w S) σ.routers v ≡ build z r G v (put_at w S I.shape v)
     is' v b = go (eqb v w) refl
       where
-        go : (b : Bool) → eqb v w ≡ b → cond b s (σ.routers v) ≡ build z r G v (cond b S (I.shape v))
-        go true e = is-s ∙ ap (λ x. build z r G x S) (sym (eqb-true v w e))
+        go : (b : Bool) → eqb v w ≡ b → cond b (build z r G w S) (σ.routers v) ≡ build z r G v (cond b S (I.shape v))
+        go true e = ap (λ x. build z r G x S) (sym (eqb-true v w e))
         go false e = I.is v b
 
     sound' : (k : ℕ) (m : Sent) → nth (σ.said ++ new) k ≡ Some m → Honest z r (put_at w S I.shape) m.from m.to m.message ⊎ Stale z m.message

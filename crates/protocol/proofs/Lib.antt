@@ -17,7 +17,6 @@ pub mod Measure
 pub mod CanEnd
 pub mod AimHop
 pub mod Spending
-pub mod Cases
 pub mod Table
 pub mod Playing
 pub mod Sending

@@ -1,14 +1,19 @@
--- Lists that have a link or not, and messages about links that are not in the list. Assumes nothing.
+-- Lists that have a link or not, and messages about links that are not in the list.
 use Rattle.std.proofs.Common.{◌≡◌, ℕ, ◌<◌, Bool, true, false, cond, ◌&&◌, eqb, ltb, List, ◌∷◌, sym, refl, ap, ◌∙◌, subst, ap₂, inl, inr, arith}
-use Rattle.std.proofs.lemmas.Bool.{ltb-false, lt-ltb, le-ltb, eq-eqb, cases_Bool, and_from, or_left, cond-true, cond-false, cond_both}
-use Rattle.protocol.specs.Hearing.{down_in, switched_in, hear}
+use Rattle.std.proofs.lemmas.Bool.{ltb-false, lt-ltb, le-ltb, eq-eqb, cases_Bool, and_from, or_left, cond-false, cond_both}
+use Rattle.protocol.specs.Hearing.{hear}
 use Rattle.protocol.specs.Failed.{Stale}
 use Rattle.protocol.specs.Order.{StaleIgnored}
 use Rattle.protocol.specs.System.{go_on, System}
-use Rattle.protocol.specs.Router.{same_link, has_link, among, Router, Message, LinkDown, Switched, Reply, Refused, Stays, Goes}
+use Rattle.protocol.specs.Router.{same_link, has_link, among, Router, Reply, Refused, Stays, Goes}
 use Rattle.theory.specs.Network.{joins, without, Network, Lawful, LinkId}
 use Rattle.theory.proofs.Joins.{joins_ends}
 use Rattle.theory.proofs.Without.{cost_failed}
+use Rattle.types.specs.declared.fault.Refusal.TheVariants.{NoSuchLink, NotPending}
+use Rattle.types.specs.declared.message.Message.{Message}
+use Rattle.types.specs.declared.message.Message.TheVariants.{LinkDown}
+use Rattle.types.specs.declared.message.Message.TheVariants as message
+use Rattle.types.specs.declared.message.Switched.{Switched}
 
 pub joins_self : (r : LinkId) → joins r r.a r.b ≡ true
 joins_self r =
@@ -40,13 +45,17 @@ unfolding among
 among_first l ms = or_left (same_link l l) (among l ms) (joins_self l)
 
 pub stale_ignored : StaleIgnored
-stale_ignored s l n w =
-    let by_down = λ (b : Bool). cond b (down_in l s s.failure) (cond (among l s.removed) Stays (Refused 4)) in
-    let by_switched = λ (u d : ℕ) (b : Bool). cond b (cond (eqb w u) (switched_in u d l s s.failure) (Refused 6)) (Refused (cond (among l s.removed) 6 4)) in
-    record {
-      taken = λ t. (ap by_down n ∙ cond-true (among l s.removed) Stays (Refused 4) t, λ u d. ap (by_switched u d) n ∙ ap Refused (cond-true (among l s.removed) 6 4 t));
-      unknown = λ t. (ap by_down n ∙ cond-false (among l s.removed) Stays (Refused 4) t, λ u d. ap (by_switched u d) n ∙ ap Refused (cond-false (among l s.removed) 6 4 t));
-    }
+stale_ignored s l n w = record { taken = at true; unknown = at false }
+  where
+    at : (b : Bool) → among l s.removed ≡ b →
+        (hear s w (LinkDown l) ≡ cond b Stays (Refused NoSuchLink)) ×
+        ((m : Switched) → m.link ≡ l → hear s w (message.Switched m) ≡ Refused (cond b NotPending NoSuchLink))
+    at b t = (
+      cond-false (has_link s.links l) _ _ n ∙ ap (λ x. cond x Stays (Refused NoSuchLink)) t,
+      λ m e.
+          cond-false (has_link s.links m.link) _ _ (ap (λ x. has_link s.links x) e ∙ n) ∙
+          ap (λ x. Refused (cond x NotPending NoSuchLink)) (ap (λ x. among x s.removed) e ∙ t),
+    )
 
 -- the router stays as it is, and says nothing
 abbrev pub Ignored : Reply → Type 0
@@ -62,7 +71,13 @@ ignored_stays σ u came (Goes s new) i = absurd i
 pub stale_heard : (s : Router) (w : ℕ) (m : Message) → Stale s.links m → Ignored (hear s w m)
 stale_heard s w (LinkDown l) n =
     let o = stale_ignored s l n w in
-    elim (cases_Bool (among l s.removed)) [ inl t ↦ subst Ignored (sym (o.taken t).0) tt | inr t ↦ subst Ignored (sym (o.unknown t).0) tt ]
-stale_heard s w (Switched u d l) n =
-    let o = stale_ignored s l n w in
-    elim (cases_Bool (among l s.removed)) [ inl t ↦ subst Ignored (sym ((o.taken t).1 u d)) tt | inr t ↦ subst Ignored (sym ((o.unknown t).1 u d)) tt ]
+    elim (cases_Bool (among l s.removed)) [
+      | inl t ↦ subst Ignored (sym (o.taken t).0) tt
+      | inr t ↦ subst Ignored (sym (o.unknown t).0) tt
+    ]
+stale_heard s w (message.Switched m) n =
+    let o = stale_ignored s m.link n w in
+    elim (cases_Bool (among m.link s.removed)) [
+      | inl t ↦ subst Ignored (sym ((o.taken t).1 m refl)) tt
+      | inr t ↦ subst Ignored (sym ((o.unknown t).1 m refl)) tt
+    ]

@@ -1,19 +1,24 @@
--- Only so many events change anything, and the others change nothing. Assumes nothing.
+-- Only so many events change anything, and the others change nothing.
 use Rattle.std.proofs.Common.{◌≡◌, ℕ, zero, suc, ◌+◌, ◌*◌, ◌<◌, ◌≤◌, Bool, true, false, cond, not, ◌&&◌, ◌||◌, eqb, ltb, List, [], ◌∷◌, ◌++◌, length, is_some, Some, None, Option, sym, refl, ap, ◌∙◌, subst, inl, inr, mul-le-mul_right, arith, length-append}
 use Rattle.std.proofs.lemmas.Bool.{both_ways, not-true, not-false, ltb-true, eqb-true, eq-eqb, ne_eqb, cases_lt, and_parts, cases_eq, cases_Bool, or_left, or_right, not_from_true, not_from_false, cond-true, cond-false, cond_both}
-use Rattle.protocol.specs.Hearing.{waits_for, came_early, keep, unwait, switched_in, hear}
+use Rattle.protocol.specs.Hearing.{awaited, switched_while, hear}
 use Rattle.protocol.specs.Failed.{after, Failed}
 use Rattle.protocol.specs.Progress.{changes, changing, Bounded, Same}
 use Rattle.protocol.specs.System.{nth, go_on, arrive, moved, put_on, set_flight, step, notices, fails, count_if, System, Flight, Event, Arrive, Switch, Put, Hop}
-use Rattle.protocol.specs.Router.{idle, same_link, has_link, among, has_switched, Router, Sent, Failure, NoFailure, Down, Message, LinkDown, Switched, Reply, Refused, Stays, Goes}
+use Rattle.protocol.specs.Router.{idle, same_link, has_link, has_switched, Router, Transition, Reply, Refused, Stays, Goes}
 use Rattle.protocol.specs.Switching.{none_below, all_below, may_in, may, mark, after_switch, says, switch_in, switch}
 use Rattle.protocol.proofs.Said.{nth_old, nth_within, tell_few, say_few}
 use Rattle.protocol.proofs.Invariant.{Honest, Taken, Later}
-use Rattle.protocol.proofs.Shape.{build, over, knows, switched_is, Shape, Unaware, Switching, Settled}
+use Rattle.protocol.proofs.Shape.{transition_of, build, over, knows, switched_is, Shape, Unaware, Switching, Settled}
 use Rattle.protocol.proofs.Links.{joins_self, Ignored, ignored_stays}
 use Rattle.protocol.proofs.Steps.{stale_build, down_unaware, down_known, over_noted, held_later, Held, held_start, stepped, held, done_is}
 use Rattle.theory.specs.Network.{Network, LinkId}
 use Rattle.theory.proofs.Distances.{count, one_most, count_most, count_le, count_lt}
+use Rattle.types.specs.declared.message.Message.{Message}
+use Rattle.types.specs.declared.message.Message.TheVariants.{LinkDown}
+use Rattle.types.specs.declared.message.Message.TheVariants as message
+use Rattle.types.specs.declared.message.Sent.{Sent}
+use Rattle.types.specs.declared.message.Switched.{Switched}
 
 -- sums
 total : ℕ → (ℕ → ℕ) → ℕ
@@ -140,15 +145,17 @@ coming_same : (σ : System) (fl : ℕ → Flight) → coming (record { routers =
 unfolding coming
 coming_same σ fl = refl
 
+abbrev Silent : Reply → Type 0
+Silent R = new_in R ≡ 0
+
 -- a Switched message is never answered by messages
-over_silent : (s : Router) (v u d : ℕ) (l : LinkId) → new_in (hear s v (Switched u d l)) ≡ 0
-over_silent s v u d l =
-    cond_both (has_link s.links l) (cond (eqb v u) (switched_in u d l s s.failure) (Refused 6)) (Refused (cond (among l s.removed) 6 4)) (λ R. new_in R ≡ 0)
-    (λ _. cond_both (eqb v u) (switched_in u d l s s.failure) (Refused 6) (λ R. new_in R ≡ 0) (λ _. inner s.failure) (λ _. refl)) (λ _. refl)
+over_silent : (s : Router) (v : ℕ) (m : Switched) → Silent (hear s v (message.Switched m))
+over_silent s v m =
+    cond_both (has_link s.links m.link) _ _ Silent (λ _. cond_both (eqb v m.from) _ _ Silent (λ _. inner s.transition) (λ _. refl)) (λ _. refl)
   where
-    inner : (f : Failure) → new_in (switched_in u d l s f) ≡ 0
-    inner NoFailure = cond_both (waits_for s.links l d s.me u && not (came_early l d u s.early)) (Goes (keep u d l s) []) (Refused 6) (λ R. new_in R ≡ 0) (λ _. refl) (λ _. refl)
-    inner (Down m) = cond_both (same_link m l && s.pending d u) (Goes (unwait u d s) []) (Refused 6) (λ R. new_in R ≡ 0) (λ _. refl) (λ _. refl)
+    inner : (o : Option Transition) → Silent (switched_while m s o)
+    inner None = cond_both (awaited s m.link m.destination m.from) _ _ Silent (λ _. refl) (λ _. refl)
+    inner (Some t) = cond_both (same_link t.link m.link && t.pending m.destination m.from) _ _ Silent (λ _. refl) (λ _. refl)
 
 module _ (z : Network) (r : LinkId) (ω : System) (F : Failed z r ω) where
   down_new : (w v : ℕ) (S : Shape) → new_in (hear (build z r F.calm.gone w S) v (LinkDown r)) ≤ z.n
@@ -179,8 +186,9 @@ module _ (z : Network) (r : LinkId) (ω : System) (F : Failed z r ω) where
       most = let q = mul-le-mul_right (z.n + 1) (unknown_le z H.inv.shape l.inv.shape l.know) in omega arith
 
       by : (M : Message) → m.message ≡ M → Honest z r H.inv.shape m.from m.to M → new_in (hear (σ.routers m.to) m.from m.message) + (z.n + 1) * unknown z l.inv.shape ≤ (z.n + 1) * unknown z H.inv.shape
-      by (Switched u d x) q h =
-          let y : new_in (hear (σ.routers m.to) m.from m.message) ≡ 0 = ap (λ y. new_in (hear (σ.routers m.to) m.from y)) q ∙ over_silent (σ.routers m.to) m.from u d x in
+      by (message.Switched n) q h =
+          let y : new_in (hear (σ.routers m.to) m.from m.message) ≡ 0 =
+          ap (λ y. new_in (hear (σ.routers m.to) m.from y)) q ∙ over_silent (σ.routers m.to) m.from n in
           omega (arith, most)
       by (LinkDown x) q h =
           let S = H.inv.shape m.to in
@@ -219,10 +227,11 @@ module _ (z : Network) (r : LinkId) (ω : System) (F : Failed z r ω) where
       σ.routers u ≡ build z r F.calm.gone u (Switching sw pe) → may (build z r F.calm.gone u (Switching sw pe)) d ≡ true → over (l.inv.shape u) d ≡ true
   now_over σ H u d l sw pe b is t =
       let s = build z r F.calm.gone u (Switching sw pe) in
+      let s' = after_switch d (transition_of r sw pe) s in
       sym (done_is z r ω F (step (Switch u d) σ) (held_later z r F.calm.gone σ (step (Switch u d) σ) H l) d u b) ∙
       (ap (λ (x : Router). has_switched r ((go_on σ u σ.came (switch x d)).routers u) d) is ∙
-      (ap (λ R. has_switched r ((go_on σ u σ.came R).routers u) d) (cond-true (may s d) (Goes (after_switch d r s) (says d r s)) Stays t) ∙
-      (ap (λ (x : Router). has_switched r x d) (cond-true (eqb u u) (after_switch d r s) (σ.routers u) (eq-eqb u u refl)) ∙ go (all_below z.n (mark d sw)))))
+      (ap (λ R. has_switched r ((go_on σ u σ.came R).routers u) d) (cond-true (may s d) (Goes s' (says d r s)) Stays t) ∙
+      (ap (λ (x : Router). has_switched r x d) (cond-true (eqb u u) s' (σ.routers u) (eq-eqb u u refl)) ∙ go (all_below z.n (mark d sw)))))
     where
       go : (b : Bool) → has_switched r (cond b (build z r F.calm.gone u Settled) (build z r F.calm.gone u (Switching (mark d sw) pe))) d ≡ true
       go true = switched_is z r F.calm.gone F.there u Settled d
@@ -232,7 +241,7 @@ module _ (z : Network) (r : LinkId) (ω : System) (F : Failed z r ω) where
       count_if (may (σ.routers u) d) (todo z (step (Switch u d) σ) l.inv.shape) ≤ todo z σ H.inv.shape
   switch_falls u d σ H l = elim (cases_lt u z.n) [
     | inl b ↦ go b (H.inv.shape u) refl
-    | inr b ↦ idle' (ap (λ f. may_in (σ.routers u) d f) (H.inv.others u b)) (ap (λ f. new_in (switch_in (σ.routers u) d f)) (H.inv.others u b))
+    | inr b ↦ idle' (ap (λ o. may_in (σ.routers u) d o) (H.inv.others u b)) (ap (λ o. new_in (switch_in (σ.routers u) d o)) (H.inv.others u b))
   ]
     where
       τ : System
@@ -258,13 +267,17 @@ module _ (z : Network) (r : LinkId) (ω : System) (F : Failed z r ω) where
           at Settled e is = idle' (ap (λ (s : Router). may s d) is) (ap (λ (s : Router). new_in (switch s d)) is)
           at (Switching sw pe) e is =
               let s = build z r F.calm.gone u (Switching sw pe) in
+              let goes = Goes (after_switch d (transition_of r sw pe) s) (says d r s) in
               elim (cases_Bool (may s d)) [
-                | inr n ↦ idle' (ap (λ (s : Router). may s d) is ∙ n) (ap (λ (s : Router). new_in (switch s d)) is ∙ ap new_in (cond-false (may s d) (Goes (after_switch d r s) (says d r s)) Stays n))
+                | inr n ↦
+                    idle' (ap (λ (s : Router). may s d) is ∙ n)
+                    (ap (λ (s : Router). new_in (switch s d)) is ∙ ap new_in (cond-false (may s d) goes Stays n))
                 | inl y ↦
                     let p = and_parts (ltb d z.n) (not (sw d) && none_below z.n (pe d)) y in
                     let q = and_parts (not (sw d)) (none_below z.n (pe d)) p.1 in
                     let x : new_in (switch (σ.routers u) d) ≤ 1 =
-                    subst (λ (s : Router). new_in (switch s d) ≤ 1) (sym is) (subst (λ R. new_in R ≤ 1) (sym (cond-true (may s d) (Goes (after_switch d r s) (says d r s)) Stays y)) (say_few z r u d)) in
+                    subst (λ (s : Router). new_in (switch s d) ≤ 1) (sym is)
+                    (subst (λ R. new_in R ≤ 1) (sym (cond-true (may s d) goes Stays y)) (say_few z r u d)) in
                     let lt = undone_lt z H.inv.shape l.inv.shape l.more u d bu (ltb-true d z.n p.0) (ap (λ X. over X d) e ∙ not-true (sw d) q.0) (now_over σ H u d l sw pe bu is y) in
                     subst (λ b. count_if b (todo z τ l.inv.shape) ≤ todo z σ H.inv.shape) (sym (ap (λ (s : Router). may s d) is ∙ y)) (omega (arith, a, c))
               ]
@@ -330,10 +343,12 @@ module _ (z : Network) (r : LinkId) (ω : System) (F : Failed z r ω) where
       go (LinkDown l) h t =
           subst (λ x. Ignored (hear (build z r F.calm.gone m.to (H.inv.shape m.to)) m.from (LinkDown x))) (sym h)
           (subst Ignored (sym (down_known z r F.calm.gone F.there m.to m.from (H.inv.shape m.to) (t (ap (λ x. same_link r x) h ∙ joins_self r)))) tt)
-      go (Switched u d l) h t =
-          subst (λ x. Ignored (hear (build z r F.calm.gone m.to (H.inv.shape m.to)) m.from (Switched u d x))) (sym h.0)
-          (subst (λ x. Ignored (hear (build z r F.calm.gone m.to (H.inv.shape m.to)) x (Switched u d r))) (sym h.1)
-          (subst Ignored (sym (over_noted z r F.calm.gone F.there m.to u d (H.inv.shape m.to) (t (ap (λ x. same_link r x) h.0 ∙ joins_self r)))) tt))
+      go (message.Switched n) h t =
+          let s = build z r F.calm.gone m.to (H.inv.shape m.to) in
+          let noted = t (ap (λ x. same_link r x) h.0 ∙ joins_self r) in
+          subst (λ x. Ignored (hear s m.from (message.Switched (record n { link = x })))) (sym h.0)
+          (subst (λ x. Ignored (hear s x (message.Switched (record n { link = r })))) (sym h.1)
+          (subst Ignored (sym (over_noted z r F.calm.gone F.there m.to n.from n.destination (H.inv.shape m.to) noted)) tt))
 
   idle_arrive : (σ : System) (H : Held z r F.calm.gone σ) (k : ℕ) (M : Option Sent) → nth σ.said k ≡ M → (is_some M && not (σ.came k)) ≡ false → Same σ (arrive σ k M)
   idle_arrive σ H k None e n = record { routers = λ v. refl; said = refl; came = λ j. refl }
@@ -345,14 +360,13 @@ module _ (z : Network) (r : LinkId) (ω : System) (F : Failed z r ω) where
         | inr q ↦ ap (λ b. b || σ.came j) q
       ])
 
-  idle_switch : (σ : System) (u d : ℕ) (f : Failure) → may_in (σ.routers u) d f ≡ false → Ignored (switch_in (σ.routers u) d f)
-  idle_switch σ u d NoFailure n = tt
-  idle_switch σ u d (Down l) n =
-      subst Ignored (sym (cond-false (may_in (σ.routers u) d (Down l)) (Goes (after_switch d l (σ.routers u)) (says d l (σ.routers u))) Stays n)) tt
+  idle_switch : (s : Router) (d : ℕ) (o : Option Transition) → may_in s d o ≡ false → Ignored (switch_in s d o)
+  idle_switch s d None n = tt
+  idle_switch s d (Some t) n = subst Ignored (sym (cond-false (may_in s d (Some t)) (Goes (after_switch d t s) (says d t.link s)) Stays n)) tt
 
   idles : (e : Event) (σ : System) → Held z r F.calm.gone σ → changes e σ ≡ false → Same σ (step e σ)
   idles (Arrive k) σ H n = idle_arrive σ H k (nth σ.said k) refl n
-  idles (Switch u d) σ H n = same_ignored σ u σ.came (switch (σ.routers u) d) (idle_switch σ u d (σ.routers u).failure n) (λ j. refl)
+  idles (Switch u d) σ H n = same_ignored σ u σ.came (switch (σ.routers u) d) (idle_switch (σ.routers u) d (σ.routers u).transition n) (λ j. refl)
   idles (Put q u p) σ H n = record { routers = λ v. refl; said = refl; came = λ j. refl }
   idles (Hop q) σ H n = record { routers = λ v. refl; said = refl; came = λ j. refl }
 

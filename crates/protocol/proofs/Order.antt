@@ -1,15 +1,15 @@
--- The rule is kept, and what follows for the next hops in use. Assumes nothing.
-use Rattle.std.proofs.Common.{◌≡◌, ℕ, zero, suc, ◌<◌, Bool, true, false, cond, not, ◌&&◌, ltb, List, sym, refl, ap, ◌∙◌, subst, inl, inr, arith}
+-- The rule is kept, and what follows for the next hops in use.
+use Rattle.std.proofs.Common.{◌≡◌, ℕ, zero, suc, ◌<◌, Bool, true, false, cond, not, ◌&&◌, ltb, List, Some, None, sym, refl, ap, ◌∙◌, subst, inl, inr}
 use Rattle.std.proofs.lemmas.Bool.{both_ways, lt-ltb, cases_lt, cases_Bool, and_from, not_from_false}
 use Rattle.protocol.specs.Hearing.{waits_for}
 use Rattle.protocol.specs.Failed.{after, done_in, Failed}
 use Rattle.protocol.specs.Order.{RuleKept, Waits, UntouchedSwitch, Afterwards}
 use Rattle.protocol.specs.System.{System, Event}
-use Rattle.protocol.specs.Router.{entry, Router, NoFailure, Down}
+use Rattle.protocol.specs.Router.{entry, Router, Transition}
 use Rattle.protocol.specs.Switching.{none_below, may}
 use Rattle.protocol.proofs.Invariant.{WaitsOk, OpenOk}
 use Rattle.protocol.proofs.Touched.{waits_parts}
-use Rattle.protocol.proofs.Shape.{build, over_knows, entry_is, Shape, Unaware, Switching, Settled}
+use Rattle.protocol.proofs.Shape.{transition_of, build, over_knows, entry_is, Shape, Unaware, Switching, Settled}
 use Rattle.protocol.proofs.Steps.{held, done_is}
 use Rattle.theory.specs.NextHop.{next_hop, uses}
 use Rattle.theory.specs.Network.{without, Network, LinkId}
@@ -29,41 +29,46 @@ afterwards z r ω F es d u b =
     ap (λ (s : Router). entry s d) (H.inv.is u b) ∙
     (entry_is z r F.calm.gone u d (H.inv.shape u) ∙ ap (λ b. next_hop (cond b (without r z) z) d u) (sym (done_is z r ω F σ H d u b)))
 
-no_failure : (l : LinkId) → NoFailure ≡ Down l → ⊥
-no_failure l e = let k : ◌≡◌ {A = ℕ} 0 1 = cc in omega arith
+-- a router in a transition has that shape
+record IsSwitching (z : Network) (r : LinkId) (ω : System) (F : Failed z r ω) (es : List Event) (u : ℕ) (t : Transition) : Type 0 where
+  shape : (held z r ω F es).inv.shape u ≡ Switching t.switched t.pending
+  is : (after r ω es).routers u ≡ build z r F.calm.gone u (Switching t.switched t.pending)
 
--- a router that has a failure is switching
-record IsSwitching (z : Network) (r : LinkId) (ω : System) (F : Failed z r ω) (es : List Event) (u : ℕ) : Type 0 where
-  inside : u < z.n
-  sw : ℕ → Bool
-  pe : ℕ → ℕ → Bool
-  shape : (held z r ω F es).inv.shape u ≡ Switching sw pe
-  is : (after r ω es).routers u ≡ build z r F.calm.gone u (Switching sw pe)
-
-switching : (z : Network) (r : LinkId) (ω : System) (F : Failed z r ω) (es : List Event) (u : ℕ) (l : LinkId) → ((after r ω es).routers u).failure ≡ Down l → IsSwitching z r ω F es u
-switching z r ω F es u l f = elim (cases_lt u z.n) [
+switching : (z : Network) (r : LinkId) (ω : System) (F : Failed z r ω) (es : List Event) (u : ℕ) (t : Transition) →
+    ((after r ω es).routers u).transition ≡ Some t → IsSwitching z r ω F es u t
+switching z r ω F es u t f = elim (cases_lt u z.n) [
   | inl b ↦ go b ((held z r ω F es).inv.shape u) refl
-  | inr b ↦ absurd (no_failure l (sym ((held z r ω F es).inv.others u b) ∙ f))
+  | inr b ↦ absurd (no_transition (sym ((held z r ω F es).inv.others u b) ∙ f))
 ]
   where
+    no_transition : None ≡ Some t → ⊥
+    no_transition e = cc
+
     is : u < z.n → (S : Shape) → (held z r ω F es).inv.shape u ≡ S → (after r ω es).routers u ≡ build z r F.calm.gone u S
     is b S e = (held z r ω F es).inv.is u b ∙ ap (λ X. build z r F.calm.gone u X) e
 
-    go : u < z.n → (S : Shape) → (held z r ω F es).inv.shape u ≡ S → IsSwitching z r ω F es u
-    go b (Unaware xs) e = absurd (no_failure l (sym (ap (λ (s : Router). s.failure) (is b (Unaware xs) e)) ∙ f))
-    go b Settled e = absurd (no_failure l (sym (ap (λ (s : Router). s.failure) (is b Settled e)) ∙ f))
-    go b (Switching sw pe) e = record { inside = b; sw = sw; pe = pe; shape = e; is = is b (Switching sw pe) e }
+    has : u < z.n → (S : Shape) → (held z r ω F es).inv.shape u ≡ S → (build z r F.calm.gone u S).transition ≡ Some t
+    has b S e = sym (ap (λ (s : Router). s.transition) (is b S e)) ∙ f
+
+    go : u < z.n → (S : Shape) → (held z r ω F es).inv.shape u ≡ S → IsSwitching z r ω F es u t
+    go b (Unaware xs) e = absurd (no_transition (has b (Unaware xs) e))
+    go b Settled e = absurd (no_transition (has b Settled e))
+    go b (Switching sw pe) e =
+        let k : transition_of r sw pe ≡ t = cc (has b (Switching sw pe) e) in
+        let q = e ∙ ap (λ (x : Transition). Switching x.switched x.pending) k in
+        record { shape = q; is = is b (Switching t.switched t.pending) q }
 
 pub waits : Waits
-waits z r ω F es v d u l f =
+waits z r ω F es v d u t f =
     let H = held z r ω F es in
-    let s = switching z r ω F es v l f in
-    let pending = ap (λ (x : Router). x.pending d u) s.is in (
-      λ t n. pending ∙ elim (subst (λ X. WaitsOk z r H.inv.shape v X) s.shape (H.inv.waits v) d u t) [
+    let s = switching z r ω F es v t f in (
+      λ w n. elim (subst (λ X. WaitsOk z r H.inv.shape v X) s.shape (H.inv.waits v) d u w) [
         | inl y ↦ y
-        | inr y ↦ absurd (both_ways (done_in r (after r ω es) d u) n (done_is z r ω F (after r ω es) H d u (H.inv.nodes u (over_knows (H.inv.shape u) d y)) ∙ y))
+        | inr y ↦
+            let is = done_is z r ω F (after r ω es) H d u (H.inv.nodes u (over_knows (H.inv.shape u) d y)) in
+            absurd (both_ways (done_in r (after r ω es) d u) n (is ∙ y))
       ],
-      λ t. (subst (λ X. OpenOk z r v X) s.shape (H.inv.unfinished v)).0 d u (sym pending ∙ t),
+      (subst (λ X. OpenOk z r v X) s.shape (H.inv.unfinished v)).0 d u,
     )
 
 none_from : (k : ℕ) (p : ℕ → Bool) → ((u : ℕ) → p u ≡ false) → none_below k p ≡ true
@@ -80,7 +85,8 @@ pub none_pending : (z : Network) (r : LinkId) (d u : ℕ) (pe : ℕ → ℕ → 
 none_pending z r d u pe h t v = elim (cases_Bool (pe d v)) [ inr q ↦ q | inl q ↦ absurd (both_ways (uses z r d u) t (waits_parts z r d u v (h v q)).0) ]
 
 pub untouched_switch : UntouchedSwitch
-untouched_switch z r ω F es u d b l f t n =
-    let s = switching z r ω F es u l f in
+untouched_switch z r ω F es u d b t f old n =
+    let s = switching z r ω F es u t f in
     let o = subst (λ X. OpenOk z r u X) s.shape ((held z r ω F es).inv.unfinished u) in
-    ap (λ (x : Router). may x d) s.is ∙ may_from z r F.calm.gone u d s.sw s.pe b (sym (ap (λ (x : Router). x.switched d) s.is) ∙ n) (none_pending z r d u s.pe (λ v. o.0 d v) t)
+    ap (λ (x : Router). may x d) s.is ∙
+    may_from z r F.calm.gone u d t.switched t.pending b n (none_pending z r d u t.pending (λ v. o.0 d v) old)

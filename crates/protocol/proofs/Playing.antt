@@ -1,4 +1,4 @@
--- A packet that moves with nothing else happening arrives. Assumes nothing.
+-- A packet that moves with nothing else happening arrives.
 use Rattle.std.proofs.Common.{◌≡◌, ℕ, zero, suc, ◌+◌, ◌≤◌, true, false, List, [], ◌∷◌, ◌++◌, length, sym, refl, ap, subst}
 use Rattle.std.proofs.lemmas.Bool.{both_ways}
 use Rattle.protocol.specs.Costs.{Aims, NotYet, Spends}

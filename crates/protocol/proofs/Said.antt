@@ -1,20 +1,24 @@
--- Messages by their numbers: what was said stays, and what is new comes after it. Assumes nothing.
+-- Messages by their numbers: what was said stays, and what is new comes after it.
 use Rattle.std.proofs.Common.{◌≡◌, ℕ, zero, suc, ◌<◌, ◌≤◌, Bool, true, false, cond, ltb, ◌⊎◌, List, [], ◌∷◌, ◌++◌, length, Some, None, Option, sym, refl, ap, ◌∙◌, subst, inl, inr, arith, length-append}
 use Rattle.std.proofs.lemmas.Bool.{both_ways, lt-ltb, cases_eq, cond-true, cond-false}
 use Rattle.protocol.specs.Hearing.{waits_for, tell}
 use Rattle.protocol.specs.System.{nth}
-use Rattle.protocol.specs.Router.{Sent, LinkDown, Switched}
 use Rattle.protocol.specs.Switching.{say_to}
 use Rattle.protocol.proofs.Touched.{uses_on, waits_from}
 use Rattle.theory.specs.NextHop.{next_hop, uses}
 use Rattle.theory.specs.Network.{joins, without, Network, Lawful, LinkId}
 use Rattle.theory.proofs.NextHops.{next_hop_is}
+use Rattle.types.specs.declared.message.Message.{Message}
+use Rattle.types.specs.declared.message.Message.TheVariants.{LinkDown}
+use Rattle.types.specs.declared.message.Message.TheVariants as message
+use Rattle.types.specs.declared.message.Sent.{Sent}
+use Rattle.types.specs.declared.message.Switched.{Switched}
 
 pub same_message : (a b : Sent) → Some a ≡ Some b → a ≡ b
 same_message a b e = cc
 
 not_said : (m : Sent) → None ≡ Some m → ⊥
-not_said m e = let k : ◌≡◌ {A = ℕ} 0 1 = cc in omega arith
+not_said m e = cc
 
 pub no_message : (k : ℕ) (m : Sent) → nth [] k ≡ Some m → ⊥
 unfolding nth
@@ -58,8 +62,15 @@ nth_first false x e = absurd (both_ways false refl e)
 abbrev pub down_to : LinkId → ℕ → ℕ → Sent
 down_to r u v = record { from = u; to = v; message = LinkDown r }
 
+-- u has switched for d
+abbrev pub switched_for : LinkId → ℕ → ℕ → Switched
+switched_for r u d = record { from = u; destination = d; link = r }
+
+abbrev pub over_by : LinkId → ℕ → ℕ → Message
+over_by r u d = message.Switched (switched_for r u d)
+
 abbrev pub over_to : LinkId → ℕ → ℕ → ℕ → Sent
-over_to r u v d = record { from = u; to = v; message = Switched u d r }
+over_to r u v d = record { from = u; to = v; message = over_by r u d }
 
 -- what a router tells its neighbours when it learns of the failure
 pub tell_is : (z : Network) (r : LinkId) (u k j : ℕ) (m : Sent) → nth (tell z r u k) j ≡ Some m → (v : ℕ) × (m ≡ down_to r u v) × (v < k)

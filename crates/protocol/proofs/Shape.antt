@@ -1,23 +1,27 @@
--- The three states in which a router can be when one link fails: it does not know, it is switching, it has switched for all destinations. Assumes nothing.
-use Rattle.std.proofs.Common.{◌≡◌, ℕ, ◌<◌, Bool, true, false, cond, not, List, [], ◌∷◌, Some, refl, ap, ◌∙◌, inl, inr}
+-- The three states in which a router can be when one link fails: it does not know, it is switching, it has switched for all destinations.
+use Rattle.std.proofs.Common.{◌≡◌, ℕ, ◌<◌, Bool, true, false, cond, not, List, [], ◌∷◌, Some, None, refl, ap, ◌∙◌, inl, inr}
 use Rattle.std.proofs.lemmas.Bool.{both_ways, cases_Bool, not_from_true, not_from_false}
-use Rattle.protocol.specs.Router.{idle, has_link, entry, has_switched, Early, Router, NoFailure, Down}
+use Rattle.protocol.specs.Router.{idle, has_link, entry, has_switched, Router, Transition}
 use Rattle.protocol.specs.Packet.{known_down}
 use Rattle.protocol.proofs.Touched.{Steady}
 use Rattle.protocol.proofs.Links.{link_gone, link_there}
 use Rattle.theory.specs.NextHop.{next_hop}
 use Rattle.theory.specs.Network.{joins, without, Network, LinkId}
 use Rattle.theory.proofs.Without.{cost_left}
+use Rattle.types.specs.declared.message.Switched.{Switched}
 
 pub data Shape : Type 0 where
-  Unaware : List Early → Shape
+  Unaware : List Switched → Shape
   Switching : (ℕ → Bool) → (ℕ → ℕ → Bool) → Shape
   Settled : Shape
 
+abbrev pub transition_of : LinkId → (ℕ → Bool) → (ℕ → ℕ → Bool) → Transition
+transition_of r sw pe = record { link = r; switched = sw; pending = pe }
+
 -- the router u of that shape; G has the links that each router had taken out before
 abbrev pub build : Network → LinkId → (ℕ → List LinkId) → ℕ → Shape → Router
-build z r G u (Unaware es) = record { me = u; links = z; removed = G u; failure = NoFailure; switched = λ d. false; pending = λ d v. false; early = es }
-build z r G u (Switching sw pe) = record { me = u; links = z; removed = G u; failure = Down r; switched = sw; pending = pe; early = [] }
+build z r G u (Unaware es) = record { me = u; links = z; removed = G u; transition = None; early = es }
+build z r G u (Switching sw pe) = record { me = u; links = z; removed = G u; transition = Some (transition_of r sw pe); early = [] }
 build z r G u Settled = idle (without r z) (r ∷ G u) u
 
 -- it has switched for d
@@ -68,7 +72,8 @@ pub entry_steady : (z : Network) (r : LinkId) (G : ℕ → List LinkId) (u aim v
 entry_steady z r G u aim v S k = elim (cases_Bool (over S aim)) [ inl t ↦ entry_new z r G u aim v S t k.new | inr t ↦ entry_old z r G u aim v S t k.old ]
 
 -- another link is not down, and costs what it did
-pub down_not : (z : Network) (r : LinkId) (G : ℕ → List LinkId) (u v w : ℕ) (S : Shape) → joins r u v ≡ false → known_down (build z r G w S).failure u v ≡ false
+pub down_not : (z : Network) (r : LinkId) (G : ℕ → List LinkId) (u v w : ℕ) (S : Shape) →
+    joins r u v ≡ false → known_down (build z r G w S) u v ≡ false
 down_not z r G u v w (Unaware es) h = refl
 down_not z r G u v w (Switching sw pe) h = h
 down_not z r G u v w Settled h = refl

@@ -1,4 +1,4 @@
--- What a packet spends on its way to its aim, and how often a repair is put on it. Assumes nothing.
+-- What a packet spends on its way to its aim, and how often a repair is put on it.
 use Rattle.std.proofs.Common.{◌≡◌, ℕ, suc, ◌+◌, ◌-◌, ◌<◌, ◌≤◌, Bool, true, false, ◌⊎◌, List, [], ◌∷◌, length, Some, None, Option, sym, refl, ap, ◌∙◌, subst, inl, inr, arith}
 use Rattle.std.proofs.lemmas.Bool.{both_ways, cases_Bool}
 use Rattle.protocol.specs.Delivery.{Reachable, enough_hops, aim_at, blocked, repairs_on, repairs_at, repairs, Deliverable}
@@ -6,7 +6,7 @@ use Rattle.protocol.specs.Failed.{after, Done, done_in, Failed}
 use Rattle.protocol.specs.System.{decided, moved, step, run, count_if, moves, System, Flight, NoPacket, UnderWay, Delivered, Dropped, Event}
 use Rattle.protocol.specs.Router.{Router}
 use Rattle.protocol.specs.Costs.{Aims, AtAim, NotYet, OnceForAim, RepairCost, CostBefore, UntouchedCost, CostAfter, Spends}
-use Rattle.protocol.specs.Packet.{strip, forward, Packet, Segment, NodeSeg, LinkSeg}
+use Rattle.protocol.specs.Packet.{forward}
 use Rattle.protocol.proofs.Forwarding.{blocked_by}
 use Rattle.protocol.proofs.Delivered.{routed}
 use Rattle.protocol.proofs.Invariant.{done_of, Later}
@@ -24,6 +24,10 @@ use Rattle.theory.proofs.NextHops.{some_of, next_hop_is}
 use Rattle.theory.proofs.Without.{untouched}
 use Rattle.theory.proofs.Using.{same_some, second_link}
 use Rattle.theory.proofs.Paths.{some_inj, none_some}
+use Rattle.types.specs.Packet.{Packet}
+use Rattle.types.specs.Segments.{strip}
+use Rattle.types.specs.declared.segment.Segment.{Segment}
+use Rattle.types.specs.declared.segment.Segment.TheVariants.{Node, Link}
 
 -- where the total is known: what it has spent, with what it has to spend
 abbrev Sum : Option ℕ → ℕ → Option ℕ → Type 0
@@ -55,9 +59,11 @@ module _ (z : Network) (r : LinkId) (ω : System) (F : Failed z r ω) (P : Type 
   track_hop σ H N B D h i j (Delivered u k) E y w = w
   track_hop σ H N B D h i j (Dropped u k n) E y w = w
   track_hop σ H N B D h i j (UnderWay u k p) E y w =
-      subst (λ (y : Router). Track z r f P d x tl total C (count_if (blocked y (aim_at y.me p.dest (strip y.me p.segments))) j) (decided y u k (forward y p))) (sym (H.inv.is u y.4))
-      (subst (λ y. Track z r f P d x tl total C (count_if (blocked s (aim_at y p.dest (strip y p.segments))) j) (decided s u k (forward s p))) (sym (me_is z r F.calm.gone u (H.inv.shape u)))
-      (subst (λ (p : Packet). Track z r f P d x tl total C (count_if (blocked_by s u p.dest (strip u p.segments)) j) (decided s u k (forward s p))) (sym w.4)
+      let track = λ (y : Router) (v : ℕ) (p : Packet).
+      Track z r f P d x tl total C (count_if (blocked y (aim_at v p.destination (strip v p.segments))) j) (decided y u k (forward y p)) in
+      subst (λ (y : Router). track y y.me p) (sym (H.inv.is u y.4))
+      (subst (λ v. track s v p) (sym (me_is z r F.calm.gone u (H.inv.shape u)))
+      (subst (λ p. track s u p) (sym w.4)
       (go (rem_next z F.lawful r F.calm.gone f H.inv.order P d x tl aims few N u w.0 some (H.inv.shape u) (λ e. refl) (λ v e. H.ends u v e) w.3 w.2 w.1 w.7))))
     where
       f : Done
@@ -166,8 +172,8 @@ spends z r ω F es P q d x u k a ss D aims fs N m =
 -- an aim that can be reached, is
 aim_left : (w : Network) (d x u : ℕ) (ss : List Segment) → Aims d ss x → Reachable w d u ss → (c : ℕ) × (distance w x u ≡ Some c)
 aim_left w d x u [] a h = subst (λ y. (c : ℕ) × (distance w y u ≡ Some c)) a (some_of (distance w d u) h)
-aim_left w d x u (NodeSeg y ∷ ss) a h = subst (λ y. (c : ℕ) × (distance w y u ≡ Some c)) a (some_of (distance w y u) h.0)
-aim_left w d x u (LinkSeg y v ∷ ss) a h = absurd a
+aim_left w d x u (Node y ∷ ss) a h = subst (λ y. (c : ℕ) × (distance w y u ≡ Some c)) a (some_of (distance w y u) h.0)
+aim_left w d x u (Link y v ∷ ss) a h = absurd a
 
 pub once_for_aim : OnceForAim
 once_for_aim z r ω F es q d x u k ss D aims fs ny =

@@ -1,27 +1,33 @@
--- The invariant holds when the link has failed, and each event keeps it. Assumes nothing.
-use Rattle.std.proofs.Common.{◌≡◌, ℕ, ◌<◌, Bool, true, false, cond, not, ◌&&◌, ◌||◌, eqb, ltb, List, [], ◌∷◌, Some, None, Option, sym, refl, ap, ◌∙◌, subst, inl, inr, arith}
+-- The invariant holds when the link has failed, and each event keeps it.
+use Rattle.std.proofs.Common.{◌≡◌, ℕ, ◌<◌, Bool, true, false, not, ◌&&◌, ◌||◌, eqb, ltb, List, [], ◌∷◌, is_some, Some, None, Option, sym, refl, ap, ◌∙◌, subst, inl, inr}
 use Rattle.std.proofs.lemmas.Bool.{both_ways, eqb-true, eq-eqb, cases_lt, and_parts, cases_Bool, and_from, and_right, or_cases, not_from_true, not_from_false, cond-true, cond-false, cond_both}
-use Rattle.protocol.specs.Hearing.{waits_for, came_early, learn, tell, keep, unwait, switched_in, hear}
+use Rattle.protocol.specs.Hearing.{waits_for, came_early, tell, switched_while, hear}
 use Rattle.protocol.specs.Failed.{Stale, after, done_in, Calm, Failed}
 use Rattle.protocol.specs.System.{nth, go_on, arrive, moved, put_on, set_flight, step, run, notices, fails, System, Event, Arrive, Switch, Put, Hop}
-use Rattle.protocol.specs.Router.{same_link, has_link, among, has_switched, Early, Router, Sent, Failure, Down, Message, LinkDown, Switched, Reply, Refused, Stays, Goes}
-use Rattle.protocol.specs.Switching.{none_below, may_in, after_switch, says, switch_in, switch}
-use Rattle.protocol.proofs.Said.{same_message}
+use Rattle.protocol.specs.Router.{same_link, has_link, has_switched, Router, Reply, Refused, Stays, Goes}
+use Rattle.protocol.specs.Switching.{none_below, may, after_switch, says, switch_in, switch}
+use Rattle.protocol.proofs.Said.{same_message, switched_for, over_by}
 use Rattle.protocol.proofs.Invariant.{put_at, put_own, Honest, Noted, Taken, Newly, unchanged, Inv, Later}
-use Rattle.protocol.proofs.Shape.{build, over, knows, switched_is, Shape, Unaware, Switching, Settled}
+use Rattle.protocol.proofs.Shape.{transition_of, build, over, knows, switched_is, Shape, Unaware, Switching, Settled}
 use Rattle.protocol.proofs.Links.{joins_self, link_gone, link_there, still_gone, other_link, among_first, stale_ignored, Ignored, ignored_stays, stale_heard}
 use Rattle.protocol.proofs.Changes.{early_none, early_new, learned, kept, unwaited, learns, keeps, unwaits, switches}
 use Rattle.theory.specs.Network.{joins, without, Network, Lawful, LinkId}
 use Rattle.theory.proofs.Joins.{joins_ends}
+use Rattle.types.specs.declared.fault.Refusal.TheVariants.{NotPending}
+use Rattle.types.specs.declared.message.Message.{Message}
+use Rattle.types.specs.declared.message.Message.TheVariants.{LinkDown}
+use Rattle.types.specs.declared.message.Message.TheVariants as message
+use Rattle.types.specs.declared.message.Sent.{Sent}
+use Rattle.types.specs.declared.message.Switched.{Switched}
 
 -- a message about another link has not to be heard
 stale_taken : (z : Network) → Lawful z → (r : LinkId) → 0 < z.cost r.a r.b → (S : Shape) (m : Message) → Stale z m → Taken r S m
 stale_taken z g r pos S (LinkDown l) n = λ h. absurd (both_ways (same_link r l) (other_link z g r l pos n) h)
-stale_taken z g r pos S (Switched u d l) n = λ h. absurd (both_ways (same_link r l) (other_link z g r l pos n) h)
+stale_taken z g r pos S (message.Switched m) n = λ h. absurd (both_ways (same_link r m.link) (other_link z g r m.link pos n) h)
 
 stale_without : (z : Network) (r : LinkId) (m : Message) → Stale z m → Stale (without r z) m
 stale_without z r (LinkDown l) n = still_gone z r l n
-stale_without z r (Switched u d l) n = still_gone z r l n
+stale_without z r (message.Switched m) n = still_gone z r m.link n
 
 pub stale_build : (z : Network) (r : LinkId) (G : ℕ → List LinkId) (w v : ℕ) (S : Shape) (m : Message) → Stale z m → Ignored (hear (build z r G w S) v m)
 stale_build z r G w v (Unaware es) m n = stale_heard (build z r G w (Unaware es)) v m n
@@ -29,44 +35,49 @@ stale_build z r G w v (Switching sw pe) m n = stale_heard (build z r G w (Switch
 stale_build z r G w v Settled m n = stale_heard (build z r G w Settled) v m (stale_without z r m n)
 
 -- what a router of each shape replies to LinkDown for the failed link
-pub down_unaware : (z : Network) (r : LinkId) (G : ℕ → List LinkId) → 0 < z.cost r.a r.b → (w v : ℕ) (es : List Early) → hear (build z r G w (Unaware es)) v (LinkDown r) ≡ Goes (learn r (build z r G w (Unaware es))) (tell z r w z.n)
-down_unaware z r G pos w v es =
-    cond-true (has_link z r) (Goes (learn r (build z r G w (Unaware es))) (tell z r w z.n)) (cond (among r (G w)) Stays (Refused 4)) (link_there z r pos)
+pub down_unaware : (z : Network) (r : LinkId) (G : ℕ → List LinkId) → 0 < z.cost r.a r.b → (w v : ℕ) (es : List Switched) →
+    hear (build z r G w (Unaware es)) v (LinkDown r) ≡ Goes (build z r G w (learned z r w es)) (tell z r w z.n)
+down_unaware z r G pos w v es = cond-true (has_link z r) _ _ (link_there z r pos)
 
 pub down_known : (z : Network) (r : LinkId) (G : ℕ → List LinkId) → 0 < z.cost r.a r.b → (w v : ℕ) (S : Shape) → knows S ≡ true → hear (build z r G w S) v (LinkDown r) ≡ Stays
 down_known z r G pos w v (Unaware es) k = absurd (both_ways false refl k)
 down_known z r G pos w v (Switching sw pe) k =
-    cond-true (has_link z r) (cond (same_link r r) Stays (Refused 5)) (cond (among r (G w)) Stays (Refused 4)) (link_there z r pos) ∙ cond-true (same_link r r) Stays (Refused 5) (joins_self r)
+    cond-true (has_link z r) _ _ (link_there z r pos) ∙ cond-true (same_link r r) _ _ (joins_self r)
 down_known z r G pos w v Settled k = ((stale_ignored (build z r G w Settled) r (link_gone z r) v).taken (among_first r (G w))).0
 
--- and to Switched from u, whom it waits for
-over_reply : (z : Network) (r : LinkId) (G : ℕ → List LinkId) → 0 < z.cost r.a r.b → (w u d : ℕ) (S : Shape) → (build z r G w S).links ≡ z → hear (build z r G w S) u (Switched u d r) ≡ switched_in u d r (build z r G w S) (build z r G w S).failure
+-- and to Switched from u
+over_reply : (z : Network) (r : LinkId) (G : ℕ → List LinkId) → 0 < z.cost r.a r.b → (w u d : ℕ) (S : Shape) → (build z r G w S).links ≡ z →
+    hear (build z r G w S) u (over_by r u d) ≡ switched_while (switched_for r u d) (build z r G w S) (build z r G w S).transition
 over_reply z r G pos w u d S e =
     let s = build z r G w S in
-    cond-true (has_link s.links r) (cond (eqb u u) (switched_in u d r s s.failure) (Refused 6)) (Refused (cond (among r s.removed) 6 4)) (ap (λ (x : Network). has_link x r) e ∙ link_there z r pos) ∙
-    cond-true (eqb u u) (switched_in u d r s s.failure) (Refused 6) (eq-eqb u u refl)
+    cond-true (has_link s.links r) _ _ (ap (λ (x : Network). has_link x r) e ∙ link_there z r pos) ∙
+    cond-true (eqb u u) _ _ (eq-eqb u u refl)
 
-pub over_noted : (z : Network) (r : LinkId) (G : ℕ → List LinkId) → 0 < z.cost r.a r.b → (w u d : ℕ) (S : Shape) → Noted r S d u → hear (build z r G w S) u (Switched u d r) ≡ Refused 6
+pub over_noted : (z : Network) (r : LinkId) (G : ℕ → List LinkId) → 0 < z.cost r.a r.b → (w u d : ℕ) (S : Shape) → Noted r S d u →
+    hear (build z r G w S) u (over_by r u d) ≡ Refused NotPending
 over_noted z r G pos w u d (Unaware es) n =
-    let s = build z r G w (Unaware es) in
     over_reply z r G pos w u d (Unaware es) refl ∙
-    cond-false (waits_for z r d w u && not (came_early r d u es)) (Goes (keep u d r s) []) (Refused 6) (and_right (waits_for z r d w u) (not (came_early r d u es)) (not_from_true (came_early r d u es) n))
+    cond-false (waits_for z r d w u && not (came_early r d u es)) _ _
+    (and_right (waits_for z r d w u) (not (came_early r d u es)) (not_from_true (came_early r d u es) n))
 over_noted z r G pos w u d (Switching sw pe) n =
-    let s = build z r G w (Switching sw pe) in
-    over_reply z r G pos w u d (Switching sw pe) refl ∙ cond-false (same_link r r && pe d u) (Goes (unwait u d s) []) (Refused 6) (and_right (same_link r r) (pe d u) n)
-over_noted z r G pos w u d Settled n = ((stale_ignored (build z r G w Settled) r (link_gone z r) u).taken (among_first r (G w))).1 u d
+    over_reply z r G pos w u d (Switching sw pe) refl ∙ cond-false (same_link r r && pe d u) _ _ (and_right (same_link r r) (pe d u) n)
+over_noted z r G pos w u d Settled n =
+    ((stale_ignored (build z r G w Settled) r (link_gone z r) u).taken (among_first r (G w))).1 (switched_for r u d) refl
 
-over_early : (z : Network) (r : LinkId) (G : ℕ → List LinkId) → 0 < z.cost r.a r.b → (w u d : ℕ) (es : List Early) → waits_for z r d w u ≡ true → came_early r d u es ≡ false →
-    hear (build z r G w (Unaware es)) u (Switched u d r) ≡ Goes (keep u d r (build z r G w (Unaware es))) []
+-- where it waits for u
+over_early : (z : Network) (r : LinkId) (G : ℕ → List LinkId) → 0 < z.cost r.a r.b → (w u d : ℕ) (es : List Switched) →
+    waits_for z r d w u ≡ true → came_early r d u es ≡ false →
+    hear (build z r G w (Unaware es)) u (over_by r u d) ≡ Goes (build z r G w (kept r u d es)) []
 over_early z r G pos w u d es t n =
     over_reply z r G pos w u d (Unaware es) refl ∙
-    cond-true (waits_for z r d w u && not (came_early r d u es)) (Goes (keep u d r (build z r G w (Unaware es))) []) (Refused 6) (and_from (waits_for z r d w u) (not (came_early r d u es)) t (not_from_false (came_early r d u es) n))
+    cond-true (waits_for z r d w u && not (came_early r d u es)) _ _
+    (and_from (waits_for z r d w u) (not (came_early r d u es)) t (not_from_false (came_early r d u es) n))
 
 over_pending : (z : Network) (r : LinkId) (G : ℕ → List LinkId) → 0 < z.cost r.a r.b → (w u d : ℕ) (sw : ℕ → Bool) (pe : ℕ → ℕ → Bool) → pe d u ≡ true →
-    hear (build z r G w (Switching sw pe)) u (Switched u d r) ≡ Goes (unwait u d (build z r G w (Switching sw pe))) []
+    hear (build z r G w (Switching sw pe)) u (over_by r u d) ≡ Goes (build z r G w (unwaited u d sw pe)) []
 over_pending z r G pos w u d sw pe t =
     over_reply z r G pos w u d (Switching sw pe) refl ∙
-    cond-true (same_link r r && pe d u) (Goes (unwait u d (build z r G w (Switching sw pe))) []) (Refused 6) (and_from (same_link r r) (pe d u) (joins_self r) t)
+    cond-true (same_link r r && pe d u) _ _ (and_from (same_link r r) (pe d u) (joins_self r) t)
 
 module _ (z : Network) (g : Lawful z) (r : LinkId) (pos : 0 < z.cost r.a r.b) (G : ℕ → List LinkId) where
   -- a reply that changes nothing
@@ -76,7 +87,7 @@ module _ (z : Network) (g : Lawful z) (r : LinkId) (pos : 0 < z.cost r.a r.b) (G
   switch_later : (σ : System) (I : Inv z r G σ) (u d : ℕ) → Later z r G σ I (go_on σ u σ.came (switch (σ.routers u) d))
   switch_later σ I u d = elim (cases_lt u z.n) [
     | inl b ↦ subst (λ (s : Router). Later z r G σ I (go_on σ u σ.came (switch s d))) (sym (I.is u b)) (go b (I.shape u) refl)
-    | inr b ↦ subst (λ (f : Failure). Later z r G σ I (go_on σ u σ.came (switch_in (σ.routers u) d f))) (sym (I.others u b)) stays
+    | inr b ↦ subst (λ o. Later z r G σ I (go_on σ u σ.came (switch_in (σ.routers u) d o))) (sym (I.others u b)) stays
   ]
     where
       stays : Later z r G σ I (go_on σ u σ.came Stays)
@@ -87,8 +98,11 @@ module _ (z : Network) (g : Lawful z) (r : LinkId) (pos : 0 < z.cost r.a r.b) (G
       go b Settled was = stays
       go b (Switching sw pe) was =
           let s = build z r G u (Switching sw pe) in
-          cond_both (may_in s d (Down r)) (Goes (after_switch d r s) (says d r s)) Stays (λ R. Later z r G σ I (go_on σ u σ.came R))
-          (λ t. switches z g r G σ I u b sw pe was d (and_parts (not (sw d)) (none_below z.n (pe d)) (and_parts (ltb d z.n) (not (sw d) && none_below z.n (pe d)) t).1).1) (λ t. stays)
+          cond_both (may s d) (Goes (after_switch d (transition_of r sw pe) s) (says d r s)) Stays (λ R. Later z r G σ I (go_on σ u σ.came R))
+          (λ t.
+          let p = and_parts (ltb d z.n) (not (sw d) && none_below z.n (pe d)) t in
+          switches z g r G σ I u b sw pe was d (and_parts (not (sw d)) (none_below z.n (pe d)) p.1).1)
+          (λ t. stays)
 
   module _ (σ : System) (I : Inv z r G σ) (w : ℕ) (bw : w < z.n) (came : ℕ → Bool) (cs : (k : ℕ) → came k ≡ true → (m : Sent) × (nth σ.said k ≡ Some m)) where
     -- LinkDown for the failed link comes
@@ -106,16 +120,19 @@ module _ (z : Network) (g : Lawful z) (r : LinkId) (pos : 0 < z.cost r.a r.b) (G
         go Settled was = known Settled was refl
 
     -- Switched comes from u, whom w waits for
-    over_later : (u d : ℕ) → over (I.shape u) d ≡ true → waits_for z r d w u ≡ true → ((sh : ℕ → Shape) → Noted r (sh w) d u → Newly r σ came sh) → Later z r G σ I (go_on σ w came (hear (σ.routers w) u (Switched u d r)))
-    over_later u d o t nw = subst (λ (s : Router). Later z r G σ I (go_on σ w came (hear s u (Switched u d r)))) (sym (I.is w bw)) (go (I.shape w) refl)
+    over_later : (u d : ℕ) → over (I.shape u) d ≡ true → waits_for z r d w u ≡ true → ((sh : ℕ → Shape) → Noted r (sh w) d u → Newly r σ came sh) →
+        Later z r G σ I (go_on σ w came (hear (σ.routers w) u (over_by r u d)))
+    over_later u d o t nw = subst (λ (s : Router). Later z r G σ I (go_on σ w came (hear s u (over_by r u d)))) (sym (I.is w bw)) (go (I.shape w) refl)
       where
         put : (S : Shape) → Noted r S d u → Newly r σ came (put_at w S I.shape)
         put S n = nw (put_at w S I.shape) (subst (λ X. Noted r X d u) (sym (put_own w S I.shape)) n)
 
-        noted : (S : Shape) → I.shape w ≡ S → Noted r S d u → Later z r G σ I (go_on σ w came (hear (build z r G w S) u (Switched u d r)))
-        noted S was n = ignores σ I w came cs (hear (build z r G w S) u (Switched u d r)) (subst Ignored (sym (over_noted z r G pos w u d S n)) tt) (nw I.shape (subst (λ X. Noted r X d u) (sym was) n))
+        noted : (S : Shape) → I.shape w ≡ S → Noted r S d u → Later z r G σ I (go_on σ w came (hear (build z r G w S) u (over_by r u d)))
+        noted S was n =
+            ignores σ I w came cs (hear (build z r G w S) u (over_by r u d)) (subst Ignored (sym (over_noted z r G pos w u d S n)) tt)
+            (nw I.shape (subst (λ X. Noted r X d u) (sym was) n))
 
-        go : (S : Shape) → I.shape w ≡ S → Later z r G σ I (go_on σ w came (hear (build z r G w S) u (Switched u d r)))
+        go : (S : Shape) → I.shape w ≡ S → Later z r G σ I (go_on σ w came (hear (build z r G w S) u (over_by r u d)))
         go (Unaware es) was = elim (cases_Bool (came_early r d u es)) [
           | inl n ↦ noted (Unaware es) was n
           | inr n ↦
@@ -156,10 +173,11 @@ module _ (z : Network) (g : Lawful z) (r : LinkId) (pos : 0 < z.cost r.a r.b) (G
       go (LinkDown l) q h =
           subst (λ x. Later z r G σ I (go_on σ m.to came (hear (σ.routers m.to) m.from (LinkDown x)))) (sym h)
           (down_later σ I m.to (I.inside k m e) came cs m.from (λ sh kn. nw sh (subst (λ x. Taken r (sh m.to) x) (sym q) (λ _. kn))))
-      go (Switched u d l) q h =
-          subst (λ x. Later z r G σ I (go_on σ m.to came (hear (σ.routers m.to) m.from (Switched u d x)))) (sym h.0)
-          (subst (λ x. Later z r G σ I (go_on σ m.to came (hear (σ.routers m.to) x (Switched u d r)))) (sym h.1)
-          (over_later σ I m.to (I.inside k m e) came cs u d h.2 h.3 (λ sh n. nw sh (subst (λ x. Taken r (sh m.to) x) (sym q) (λ _. n)))))
+      go (message.Switched n) q h =
+          subst (λ x. Later z r G σ I (go_on σ m.to came (hear (σ.routers m.to) m.from (message.Switched (record n { link = x }))))) (sym h.0)
+          (subst (λ x. Later z r G σ I (go_on σ m.to came (hear (σ.routers m.to) x (message.Switched (record n { link = r }))))) (sym h.1)
+          (over_later σ I m.to (I.inside k m e) came cs n.from n.destination h.2 h.3
+          (λ sh t. nw sh (subst (λ x. Taken r (sh m.to) x) (sym q) (λ _. t)))))
 
   step_later : (e : Event) (σ : System) (I : Inv z r G σ) → Later z r G σ I (step e σ)
   step_later (Arrive k) σ I = arrive_later σ I k (nth σ.said k) refl
@@ -173,8 +191,8 @@ module _ (z : Network) (g : Lawful z) (r : LinkId) (pos : 0 < z.cost r.a r.b) (G
   noticed : (σ : System) (I : Inv z r G σ) (u : ℕ) (b : u < z.n) → knows ((notice_later σ I u b).inv.shape u) ≡ true
   noticed σ I u b = go (I.shape u) refl
     where
-      aware : (S : Shape) → (build z r G u S).failure ≡ Down r → knows S ≡ true
-      aware (Unaware es) e = let k : ◌≡◌ {A = ℕ} 0 1 = cc in absurd (omega arith)
+      aware : (S : Shape) → is_some (build z r G u S).transition ≡ true → knows S ≡ true
+      aware (Unaware es) e = absurd (both_ways false refl e)
       aware (Switching sw pe) e = refl
       aware Settled e = refl
 
@@ -182,11 +200,12 @@ module _ (z : Network) (g : Lawful z) (r : LinkId) (pos : 0 < z.cost r.a r.b) (G
       go (Switching sw pe) was = (notice_later σ I u b).know u (subst (λ X. knows X ≡ true) (sym was) refl)
       go Settled was = (notice_later σ I u b).know u (subst (λ X. knows X ≡ true) (sym was) refl)
       go (Unaware es) was =
-          let s = build z r G u (Unaware es) in
+          let now = λ (R : Reply). is_some ((go_on σ u σ.came R).routers u).transition in
           aware ((notice_later σ I u b).inv.shape u)
-          (ap (λ (x : Router). x.failure) (sym ((notice_later σ I u b).inv.is u b)) ∙
-          (ap (λ (x : Router). ((go_on σ u σ.came (hear x u (LinkDown r))).routers u).failure) (I.is u b ∙ ap (λ X. build z r G u X) was) ∙
-          (ap (λ R. ((go_on σ u σ.came R).routers u).failure) (down_unaware z r G pos u u es) ∙ ap (λ (x : Router). x.failure) (cond-true (eqb u u) (learn r s) (σ.routers u) (eq-eqb u u refl)))))
+          (ap (λ (x : Router). is_some x.transition) (sym ((notice_later σ I u b).inv.is u b)) ∙
+          (ap (λ (x : Router). now (hear x u (LinkDown r))) (I.is u b ∙ ap (λ X. build z r G u X) was) ∙
+          (ap now (down_unaware z r G pos u u es) ∙
+          ap (λ (x : Router). is_some x.transition) (cond-true (eqb u u) (build z r G u (learned z r u es)) (σ.routers u) (eq-eqb u u refl)))))
 
 -- a calm system
 start : (z : Network) → Lawful z → (r : LinkId) → 0 < z.cost r.a r.b → (ω : System) (C : Calm z ω) → Inv z r C.gone ω

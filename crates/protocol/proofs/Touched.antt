@@ -1,4 +1,4 @@
--- Paths that use the failed link, and paths that do not. Assumes nothing.
+-- Paths that use the failed link, and paths that do not.
 use Rattle.std.proofs.Common.{◌≡◌, ℕ, zero, suc, ◌+◌, ◌<◌, ◌≤◌, Bool, true, false, not, ◌&&◌, ◌⊎◌, Some, None, Option, sym, refl, ap, ◌∙◌, subst, inl, inr, arith}
 use Rattle.std.proofs.lemmas.Bool.{both_ways, not-true, eq-eqb, cases_lt, and_parts, cases_eq, cases_Bool, and_from, or_cases, or_parts, not_from_false}
 use Rattle.protocol.specs.Hearing.{waits_for}

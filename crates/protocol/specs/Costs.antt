@@ -1,18 +1,20 @@
--- What is promised of repairs and of the cost of packets while routers switch. Assumes nothing.
+-- What is promised of repairs and of the cost of packets while routers switch.
 use Rattle.std.specs.Prelude.{◌≡◌, ℕ, ◌+◌, ◌<◌, ◌≤◌, true, false, List, [], ◌∷◌, Some}
 use Rattle.protocol.specs.Delivery.{repairs, Deliverable}
 use Rattle.protocol.specs.Failed.{after, done_in, Failed}
 use Rattle.protocol.specs.System.{step, run, System, Flight, UnderWay, Delivered, Event}
-use Rattle.protocol.specs.Packet.{Packet, Segment, NodeSeg, LinkSeg}
 use Rattle.theory.specs.NextHop.{next_hop, uses}
 use Rattle.theory.specs.Distance.{distance}
 use Rattle.theory.specs.Network.{joins, without, Network, LinkId}
+use Rattle.types.specs.Packet.{Packet}
+use Rattle.types.specs.declared.segment.Segment.{Segment}
+use Rattle.types.specs.declared.segment.Segment.TheVariants.{Node, Link}
 
 -- the aim of a packet for d with these segments
 abbrev pub Aims : ℕ → List Segment → ℕ → Type 0
 Aims d [] x = d ≡ x
-Aims d (NodeSeg y ∷ ss) x = y ≡ x
-Aims d (LinkSeg a b ∷ ss) x = ⊥
+Aims d (Node y ∷ ss) x = y ≡ x
+Aims d (Link a b ∷ ss) x = ⊥
 
 -- packet q is at x with these segments
 abbrev pub AtAim : ℕ → List Segment → Flight → Type 0

@@ -1,18 +1,21 @@
--- What is promised of packets. Assumes nothing.
-use Rattle.std.specs.Prelude.{◌≡◌, ℕ, suc, ◌+◌, ◌*◌, ◌<◌, ◌≤◌, Bool, true, false, cond, ◌&&◌, List, [], ◌∷◌, length, is_some, Some, None, Option, ◌==◌}
+-- What is promised of packets.
+use Rattle.std.specs.Prelude.{◌≡◌, ℕ, suc, ◌+◌, ◌*◌, ◌<◌, ◌≤◌, Bool, true, false, ◌&&◌, List, [], ◌∷◌, length, is_some, Some, None, Option, if◌then◌else◌, ◌==◌}
 use Rattle.protocol.specs.Failed.{after, Calm, Failed}
 use Rattle.protocol.specs.System.{step, run, count_if, moves, System, Flight, NoPacket, UnderWay, Delivered, Dropped, Event, Arrive, Switch, Put, Hop}
 use Rattle.protocol.specs.Router.{entry, Router}
-use Rattle.protocol.specs.Packet.{strip, known_down, Segment, NodeSeg, LinkSeg}
+use Rattle.protocol.specs.Packet.{known_down}
 use Rattle.theory.specs.NextHop.{at_hop}
 use Rattle.theory.specs.Distance.{distance}
 use Rattle.theory.specs.Network.{without, Network, Lawful, LinkId}
+use Rattle.types.specs.Segments.{strip}
+use Rattle.types.specs.declared.segment.Segment.{Segment}
+use Rattle.types.specs.declared.segment.Segment.TheVariants.{Node, Link}
 
 -- the stations of a packet at u can be reached one after the other, and then d
 abbrev pub Reachable : Network → ℕ → ℕ → List Segment → Type 0
 Reachable w d u [] = is_some (distance w d u) ≡ true
-Reachable w d u (NodeSeg x ∷ ss) = (is_some (distance w x u) ≡ true) × Reachable w d x ss
-Reachable w d u (LinkSeg a b ∷ ss) = (a ≡ u) × (0 < w.cost a b) × Reachable w d b ss
+Reachable w d u (Node x ∷ ss) = (is_some (distance w x u) ≡ true) × Reachable w d x ss
+Reachable w d u (Link a b ∷ ss) = (a ≡ u) × (0 < w.cost a b) × Reachable w d b ss
 
 -- so many of its own hops are enough for a packet with k segments among n nodes
 abbrev pub enough_hops : ℕ → ℕ → ℕ
@@ -21,7 +24,7 @@ enough_hops n k = suc k * (2 * n * n + 4 * n + 1)
 -- packet q, which is at u and has spent c, has at most 3 segments and hops enough, and can come to its stations by the links of w
 pub record Deliverable (w : Network) (σ : System) (q d u c : ℕ) (ss : List Segment) : Type 0 where
   pub hop_limit : ℕ
-  pub at : σ.flights q ≡ UnderWay u c (record { dest = d; hop_limit = hop_limit; segments = ss })
+  pub at : σ.flights q ≡ UnderWay u c (record { destination = d; hop_limit = hop_limit; segments = ss })
   pub inside : u < w.n
   pub few : length ss ≤ 3
   pub reachable : Reachable w d u ss
@@ -51,17 +54,17 @@ WithinLimit = (n k : ℕ) → n ≤ 64 → k ≤ 3 → enough_hops n k ≤ 33796
 
 -- the aim at node u of a packet for d, when its own segments are off: none at a link segment, and at its end
 abbrev pub aim_at : ℕ → ℕ → List Segment → Option ℕ
-aim_at u d [] = cond (u == d) None (Some d)
-aim_at u d (NodeSeg x ∷ ss) = Some x
-aim_at u d (LinkSeg a b ∷ ss) = None
+aim_at u d [] = if u == d then None else Some d
+aim_at u d (Node x ∷ ss) = Some x
+aim_at u d (Link a b ∷ ss) = None
 
 -- the router puts a repair on the packet
 abbrev pub blocked : Router → Option ℕ → Bool
-blocked s aim = at_hop (λ x. at_hop (λ v. known_down s.failure s.me v) (entry s x)) aim
+blocked s aim = at_hop (λ x. at_hop (λ v. known_down s s.me v) (entry s x)) aim
 
 abbrev pub repairs_on : (ℕ → Router) → Flight → Bool
 repairs_on f NoPacket = false
-repairs_on f (UnderWay u c p) = blocked (f u) (aim_at (f u).me p.dest (strip (f u).me p.segments))
+repairs_on f (UnderWay u c p) = blocked (f u) (aim_at (f u).me p.destination (strip (f u).me p.segments))
 repairs_on f (Delivered u c) = false
 repairs_on f (Dropped u c k) = false
 

@@ -1,13 +1,16 @@
--- The setting of the promises: no failure is known, and then a link fails. Assumes nothing.
-use Rattle.std.specs.Prelude.{◌≡◌, ℕ, ◌<◌, ◌≤◌, Bool, true, false, List, Some}
+-- The setting of the promises: no failure is known, and then a link fails.
+use Rattle.std.specs.Prelude.{◌≡◌, ℕ, ◌<◌, ◌≤◌, Bool, true, false, List, Some, None}
 use Rattle.protocol.specs.System.{nth, run, fails, System, Event}
-use Rattle.protocol.specs.Router.{idle, has_link, has_switched, Sent, NoFailure, Message, LinkDown, Switched}
+use Rattle.protocol.specs.Router.{idle, has_link, has_switched}
 use Rattle.theory.specs.Network.{Network, Lawful, LinkId}
+use Rattle.types.specs.declared.message.Message.{Message}
+use Rattle.types.specs.declared.message.Message.TheVariants.{LinkDown, Switched}
+use Rattle.types.specs.declared.message.Sent.{Sent}
 
 -- a message speaks of a link that is not in the list
 abbrev pub Stale : Network → Message → Type 0
 Stale z (LinkDown l) = has_link z l ≡ false
-Stale z (Switched u d l) = has_link z l ≡ false
+Stale z (Switched m) = has_link z m.link ≡ false
 
 -- All routers have the list z, and no failure is known.
 -- Messages carry no number of their failure, so that an old one about a link of the list would pass for a new one: the promises assume that none is under way from an earlier failure of the same link.
@@ -16,7 +19,7 @@ pub record Calm (z : Network) (σ : System) : Type 0 where
   -- by router: the links that it has taken out
   pub gone : ℕ → List LinkId
   pub nothing : (u : ℕ) → u < z.n → σ.routers u ≡ idle z (gone u) u
-  pub others : (u : ℕ) → z.n ≤ u → (σ.routers u).failure ≡ NoFailure
+  pub others : (u : ℕ) → z.n ≤ u → (σ.routers u).transition ≡ None
   pub old : (k : ℕ) (m : Sent) → nth σ.said k ≡ Some m → (m.to < z.n) × Stale z m.message
   pub came : (k : ℕ) → σ.came k ≡ true → (m : Sent) × (nth σ.said k ≡ Some m)
 

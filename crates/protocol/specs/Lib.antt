@@ -8,6 +8,5 @@ pub mod Order
 pub mod Delivery
 pub mod Costs
 pub mod Progress
-pub mod Worked
 pub mod Table
 pub mod Playing

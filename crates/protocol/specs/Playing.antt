@@ -1,13 +1,13 @@
--- A packet that moves with nothing else happening, until it ends. Assumes nothing.
+-- A packet that moves with nothing else happening, until it ends.
 use Rattle.std.specs.Prelude.{◌≡◌, ℕ, zero, suc, ◌+◌, ◌≤◌, Bool, true, false, List, [], ◌∷◌, length, Some}
 use Rattle.protocol.specs.Costs.{Aims, NotYet, Spends}
 use Rattle.protocol.specs.Delivery.{Safe, Arrived, Deliverable, repairs}
 use Rattle.protocol.specs.Failed.{after, Calm, Failed}
 use Rattle.protocol.specs.System.{run, System, Flight, NoPacket, UnderWay, Delivered, Dropped, Event, Hop}
-use Rattle.protocol.specs.Packet.{Segment}
 use Rattle.theory.specs.Distance.{distance}
 use Rattle.theory.specs.NextHop.{next_hop}
 use Rattle.theory.specs.Network.{joins, without, Network, Lawful, LinkId}
+use Rattle.types.specs.declared.segment.Segment.{Segment}
 
 -- packet q moves k times
 unfoldable pub hops : ℕ → ℕ → List Event

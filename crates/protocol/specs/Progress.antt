@@ -1,11 +1,12 @@
--- What is promised of the end of the switching. Assumes nothing.
+-- What is promised of the end of the switching.
 use Rattle.std.specs.Prelude.{◌≡◌, ℕ, ◌+◌, ◌*◌, ◌<◌, ◌≤◌, Bool, true, false, not, ◌&&◌, List, [], ◌∷◌, length, is_some, Some}
 use Rattle.protocol.specs.Failed.{after, Calm, Failed}
 use Rattle.protocol.specs.System.{nth, step, run, whole, fails, count_if, System, Event, Arrive, Switch, Put, Hop}
-use Rattle.protocol.specs.Router.{idle, Sent}
+use Rattle.protocol.specs.Router.{idle}
 use Rattle.protocol.specs.Switching.{may}
 use Rattle.theory.specs.Distance.{distance}
 use Rattle.theory.specs.Network.{without, Network, Lawful, LinkId}
+use Rattle.types.specs.declared.message.Sent.{Sent}
 
 -- no message is under way, and nobody may switch
 pub record Quiet (σ : System) : Type 0 where

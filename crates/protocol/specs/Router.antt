@@ -1,18 +1,19 @@
--- A router: its state, the messages between routers, and the next hop that it uses. Assumes nothing.
-use Rattle.std.specs.Prelude.{ℕ, Bool, false, cond, not, ◌||◌, List, [], ◌∷◌, Option, nat_lt}
+-- A router: its state, and the next hop that it uses.
+use Rattle.std.specs.Prelude.{ℕ, Bool, false, not, ◌||◌, List, [], ◌∷◌, Some, None, Option, if◌then◌else◌, nat_lt}
+use Rattle.std.specs.Option.{option_map}
 use Rattle.theory.specs.NextHop.{next_hop}
 use Rattle.theory.specs.Network.{joins, without, Network, LinkId}
+use Rattle.types.specs.declared.fault.Refusal.{Refusal}
+use Rattle.types.specs.declared.message.Sent.{Sent}
+use Rattle.types.specs.declared.message.Switched.{Switched}
 
--- the failed link, from when the router learns of it until it has switched for all destinations
-pub data Failure : Type 0 where
-  NoFailure : Failure
-  Down : LinkId → Failure
-
--- a Switched message that came before the router knew of the failure
-pub record Early : Type 0 where
-  pub from : ℕ
-  pub dest : ℕ
+-- what exists only from when a router learns that a link has failed until it has switched for all destinations
+pub record Transition : Type 0 where
   pub link : LinkId
+  -- by destination: it has switched to the new next hop
+  pub switched : ℕ → Bool
+  -- by destination and neighbour: that neighbour's Switched message is waited for
+  pub pending : ℕ → ℕ → Bool
 
 pub record Router : Type 0 where
   pub me : ℕ
@@ -20,33 +21,19 @@ pub record Router : Type 0 where
   pub links : Network
   -- the links that it has taken out since it was given its list
   pub removed : List LinkId
-  pub failure : Failure
-  -- by destination: it has switched to the new next hop (while a failure is known)
-  pub switched : ℕ → Bool
-  -- by destination and neighbour: that neighbour's Switched message is waited for
-  pub pending : ℕ → ℕ → Bool
-  pub early : List Early
+  pub transition : Option Transition
+  -- Switched messages that came before it learnt of the failure
+  pub early : List Switched
 
--- a link has failed; or `from` has switched for `dest`, since that link has failed
-pub data Message : Type 0 where
-  LinkDown : LinkId → Message
-  Switched : (from dest : ℕ) → LinkId → Message
-
--- a message from a router to a neighbour
-pub record Sent : Type 0 where
-  pub from : ℕ
-  pub to : ℕ
-  pub message : Message
-
--- refused by a fault's number, or accepted, and nothing changes; or the router goes on as another, and sends messages
+-- refused; or accepted, and nothing changes; or the router goes on as another, and sends messages
 pub data Reply : Type 0 where
-  Refused : ℕ → Reply
+  Refused : Refusal → Reply
   Stays : Reply
   Goes : Router → List Sent → Reply
 
 -- it knows of no failure, and keeps nothing but the links that it has taken out
 abbrev pub idle : Network → List LinkId → ℕ → Router
-idle z gone u = record { me = u; links = z; removed = gone; failure = NoFailure; switched = λ d. false; pending = λ d v. false; early = [] }
+idle z gone u = record { me = u; links = z; removed = gone; transition = None; early = [] }
 
 abbrev pub same_link : LinkId → LinkId → Bool
 same_link l m = joins l m.a m.b
@@ -58,13 +45,27 @@ unfoldable pub among : LinkId → List LinkId → Bool
 among l [] = false
 among l (m ∷ ms) = same_link m l || among l ms
 
+-- the link that it knows to be down
+abbrev pub known_failure : Router → Option LinkId
+known_failure s = option_map (λ t. t.link) s.transition
+
+-- it has switched for the destination d, since it knows of the failure
+abbrev pub switched_in : Option Transition → ℕ → Bool
+switched_in None d = false
+switched_in (Some t) d = t.switched d
+
+-- it waits for the neighbour u to switch for d
+abbrev pub pending_in : Option Transition → ℕ → ℕ → Bool
+pending_in None d u = false
+pending_in (Some t) d u = t.pending d u
+
 -- the links by which it forwards to an aim
-abbrev pub links_in : Router → ℕ → Failure → Network
-links_in s aim NoFailure = s.links
-links_in s aim (Down l) = cond (s.switched aim) (without l s.links) s.links
+abbrev pub links_in : Network → ℕ → Option Transition → Network
+links_in z aim None = z
+links_in z aim (Some t) = if t.switched aim then without t.link z else z
 
 abbrev pub links_for : Router → ℕ → Network
-links_for s aim = links_in s aim s.failure
+links_for s aim = links_in s.links aim s.transition
 
 -- its present next hop
 abbrev pub entry : Router → ℕ → Option ℕ

@@ -1,17 +1,21 @@
--- Routers that exchange messages, with packets under way; and what may happen, in any order. Assumes nothing.
-use Rattle.std.specs.Prelude.{ℕ, zero, suc, ◌+◌, Bool, true, false, cond, ◌||◌, List, [], ◌∷◌, ◌++◌, Some, None, Option, ◌==◌}
+-- Routers that exchange messages, with packets under way; and what may happen, in any order.
+use Rattle.std.specs.Prelude.{ℕ, zero, suc, ◌+◌, Bool, true, false, ◌||◌, List, [], ◌∷◌, ◌++◌, Some, None, Option, if◌then◌else◌, ◌==◌}
 use Rattle.protocol.specs.Hearing.{hear}
-use Rattle.protocol.specs.Router.{idle, Router, Sent, LinkDown, Reply, Refused, Stays, Goes}
-use Rattle.protocol.specs.Packet.{forward, Packet, Decision, Deliver, Send, Drop}
+use Rattle.protocol.specs.Router.{idle, Router, Reply, Refused, Stays, Goes}
+use Rattle.protocol.specs.Packet.{forward, Decision, Deliver, Send, Drop}
 use Rattle.protocol.specs.Switching.{switch}
 use Rattle.theory.specs.Network.{Network, LinkId}
+use Rattle.types.specs.Packet.{Packet}
+use Rattle.types.specs.declared.fault.DropReason.{DropReason}
+use Rattle.types.specs.declared.message.Message.TheVariants.{LinkDown}
+use Rattle.types.specs.declared.message.Sent.{Sent}
 
 -- where a packet is, and what it has spent: the costs of the links that it went over
 pub data Flight : Type 0 where
   NoPacket : Flight
   UnderWay : (at spent : ℕ) → Packet → Flight
   Delivered : (at spent : ℕ) → Flight
-  Dropped : (at spent fault : ℕ) → Flight
+  Dropped : (at spent : ℕ) → DropReason → Flight
 
 pub record System : Type 0 where
   pub routers : ℕ → Router
@@ -35,13 +39,13 @@ nth (m ∷ ms) zero = Some m
 nth (m ∷ ms) (suc k) = nth ms k
 
 abbrev pub set_router : ℕ → Router → (ℕ → Router) → ℕ → Router
-set_router u s f v = cond (v == u) s (f v)
+set_router u s f v = if v == u then s else f v
 
 -- a router goes on, or nothing changes
 abbrev pub go_on : System → ℕ → (ℕ → Bool) → Reply → System
-go_on σ u came (Refused k) = record { routers = σ.routers; said = σ.said; came = came; flights = σ.flights }
-go_on σ u came Stays = record { routers = σ.routers; said = σ.said; came = came; flights = σ.flights }
-go_on σ u came (Goes s new) = record { routers = set_router u s σ.routers; said = σ.said ++ new; came = came; flights = σ.flights }
+go_on σ u came (Refused k) = record σ { came = came }
+go_on σ u came Stays = record σ { came = came }
+go_on σ u came (Goes s new) = record σ { routers = set_router u s σ.routers; said = σ.said ++ new; came = came }
 
 abbrev pub arrive : System → ℕ → Option Sent → System
 arrive σ k None = σ
@@ -65,13 +69,13 @@ put_on u p (Delivered v c) = Delivered v c
 put_on u p (Dropped v c k) = Dropped v c k
 
 abbrev pub set_flight : ℕ → Flight → (ℕ → Flight) → ℕ → Flight
-set_flight q x f p = cond (p == q) x (f p)
+set_flight q x f p = if p == q then x else f p
 
 abbrev pub step : Event → System → System
 step (Arrive k) σ = arrive σ k (nth σ.said k)
 step (Switch u d) σ = go_on σ u σ.came (switch (σ.routers u) d)
-step (Put q u p) σ = record { routers = σ.routers; said = σ.said; came = σ.came; flights = set_flight q (put_on u p (σ.flights q)) σ.flights }
-step (Hop q) σ = record { routers = σ.routers; said = σ.said; came = σ.came; flights = set_flight q (moved σ.routers (σ.flights q)) σ.flights }
+step (Put q u p) σ = record σ { flights = set_flight q (put_on u p (σ.flights q)) σ.flights }
+step (Hop q) σ = record σ { flights = set_flight q (moved σ.routers (σ.flights q)) σ.flights }
 
 unfoldable pub run : List Event → System → System
 run [] σ = σ

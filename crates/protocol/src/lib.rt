@@ -7,7 +7,6 @@ ghost use Rattle.protocol.specs.Delivery.{Delivery, WithinLimit, RepairedOnce, C
 ghost use Rattle.protocol.specs.Costs.{OnceForAim, RepairCost, CostBefore, UntouchedCost, CostAfter};
 ghost use Rattle.protocol.specs.Progress.{Progress, CalmAgain, CalmFirst, Bounded, CanEnd};
 ghost use Rattle.protocol.specs.Playing.{PlayedOut, PlayedCalm};
-ghost use Rattle.protocol.specs.Worked.{Worked};
 ghost use Rattle.protocol.specs.Table.{Table};
 
 pub fn three_rounds_holds()
@@ -96,10 +95,6 @@ pub fn played_out_holds()
 
 pub fn played_calm_holds()
     ensures { PlayedCalm }
-{}
-
-pub fn worked_holds()
-    ensures { Worked }
 {}
 
 pub fn table_holds()

@@ -1,4 +1,4 @@
--- Along the path that is left, the nodes that the end reaches by another neighbour come first. Assumes nothing.
+-- Along the path that is left, the nodes that the end reaches by another neighbour come first.
 use Rattle.std.proofs.Common.{◌≡◌, ℕ, ◌+◌, true, false, cond, Some, None, Option, sym, refl, ap, ◌∙◌, inl, inr, arith}
 use Rattle.std.proofs.lemmas.Bool.{both_ways, cases_Bool, or_parts, cond-true, cond-false}
 use Rattle.theory.specs.Network.{Network, Lawful, LinkId, joins, without}

@@ -1,4 +1,4 @@
--- What is found along the post-convergence path, and what it says of the entry. Assumes nothing.
+-- What is found along the post-convergence path, and what it says of the entry.
 use Rattle.std.proofs.Common.{◌≡◌, ℕ, ◌+◌, ◌*◌, ◌<◌, ◌≤◌, true, cond, List, length, get_or, set, Some, None, Option, sym, ap, ◌∙◌, inl, inr, arith}
 use Rattle.std.proofs.lemmas.Bool.{cases_eq, cond-true}
 use Rattle.std.proofs.lemmas.List.{get_or-set_same, get_or-set_other}
@@ -13,8 +13,8 @@ use Rattle.theory.specs.Network.{without, Network, Lawful}
 use Rattle.theory.proofs.Reached.{reached}
 use Rattle.theory.proofs.NextHops.{same_eq}
 use Rattle.theory.proofs.HopPaths.{path_stop, path_to}
-use Rattle.repairs.specs.declared.repair.Entry.{Entry}
-use Rattle.repairs.specs.declared.repair.Entry.TheVariants as entries
+use Rattle.repairs.specs.declared.entry.Entry.{Entry}
+use Rattle.repairs.specs.declared.entry.Entry.TheVariants as entries
 
 pub along_stop : (z y : Network) (s f d w : ℕ) → None ≡ next_hop y d w → None ≡ last_reached z s f w (path y d w)
 unfolding last_reached

@@ -1,4 +1,4 @@
--- What is laid up is right. Assumes nothing.
+-- What is laid up is right.
 use Rattle.std.proofs.Common.{◌≡◌, ℕ, true, ◌&&◌, eqb, Some, None, Option, sym, refl, ap, ◌∙◌, inl, inr, arith}
 use Rattle.std.proofs.lemmas.Bool.{eq-eqb, cases_Bool, and_from, or_left, cond-true, cond-false}
 use Rattle.theory.specs.Network.{joins, without, Network, Lawful, LinkId}
@@ -10,8 +10,8 @@ use Rattle.theory.proofs.NextHops.{same_eq}
 use Rattle.theory.proofs.Repairs.{some_none, serves, same_path_repaired, no_repair}
 use Rattle.repairs.specs.Entries.{meaning}
 use Rattle.repairs.specs.Serving.{Mends, Right}
-use Rattle.repairs.specs.declared.repair.Entry.{Entry}
-use Rattle.repairs.specs.declared.repair.Entry.TheVariants as entries
+use Rattle.repairs.specs.declared.entry.Entry.{Entry}
+use Rattle.repairs.specs.declared.entry.Entry.TheVariants as entries
 
 -- the repair that is laid up, if any, and a number for each case
 found : Laid → Option Repair
@@ -87,4 +87,4 @@ via_right z g s f d p q e =
 pub right : (z : Network) → Lawful z → (s f d : ℕ) (e : Entry) → meaning e ≡ laid z s f d → Right z s f d e
 right z g s f d entries.Unused h = unused_right z s f d h
 right z g s f d entries.Apart h = apart_right z g s f d h
-right z g s f d (entries.Via x) h = via_right z g s f d x.p.0 x.q.0 h
+right z g s f d (entries.Via x) h = via_right z g s f d x.p x.q h

@@ -1,4 +1,4 @@
--- Nodes along the path that is left from s to d. Assumes nothing.
+-- Nodes along the path that is left from s to d.
 use Rattle.std.specs.Prelude.{◌≡◌, ℕ, ◌+◌, Some}
 use Rattle.theory.specs.Network.{Network}
 use Rattle.theory.specs.Distance.{distance}

@@ -1,18 +1,19 @@
-use links::node::NodeId;
+use std::marker::Model;
+use types::NodeId;
 
-// First to p by next hops, then over the link from p to q, then on by next hops.
+/// First to p by next hops, then over the link from p to q, then on by next hops.
 #[derive(Clone, Copy, PartialEq, Eq, Debug)]
 pub struct Repair {
     pub p: NodeId,
     pub q: NodeId,
 }
 
-// What a node has laid up for one of its links and one destination.
-#[derive(Clone, Copy, PartialEq, Eq, Debug)]
-pub enum Entry {
-    // it doesn't send over the link to the destination
-    Unused,
-    // no path is left
-    Apart,
-    Via(Repair),
+impl Model for Repair {
+    ghost use Rattle.theory.specs.Repair as theory;
+
+    ghost Value = { theory.Repair };
+
+    ghost view = { λ r. record { p = r.p; q = r.q } };
+
+    ghost inverse = { λ r. record { p = r.p; q = r.q } };
 }

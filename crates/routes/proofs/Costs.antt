@@ -3,7 +3,7 @@ use Rattle.std.proofs.Common.{◌≡◌, ℕ, zero, suc, ◌+◌, ◌-◌, ◌*�
 use mathlib.Core.Path.{fun_ext}
 use Rattle.std.proofs.lemmas.Bool.{ltb-true, lt-ltb, eq-eqb, cases_lt, and_parts, cases_eq, cases_Bool, and_from, or_left, cond-true, cond-false, cond_both}
 use Rattle.std.proofs.lemmas.List.{get_or-replicate, get_or-set_same, get_or-set_other, drop_all, drop_more, get_or-reverse, get_or_default, length-reverse}
-use Rattle.links.specs.Link.{ends_of}
+use Rattle.types.specs.Link.{ends_of}
 use Rattle.links.specs.Links.{start, rising_from, rising, cost_in, network_of}
 use Rattle.links.proofs.Lawful.{rising_parts, lawful, limited}
 use Rattle.routes.specs.Matrix.{matrix_network}
@@ -11,7 +11,7 @@ use Rattle.routes.specs.Costs.{cost_at, network_in, put, Symmetric, Loopless, Li
 use Rattle.theory.specs.Network.{joins, Lawful, Limited, LinkId}
 use Rattle.theory.proofs.Joins.{joins_symmetric, joins_ends}
 use Rattle.theory.proofs.Without.{lawful_without}
-use Rattle.links.specs.declared.link.Link.{Link}
+use Rattle.types.specs.declared.link.Link.{Link}
 use Rattle.routes.specs.declared.matrix.CostMatrix.{CostMatrix}
 
 -- m has what f says of each two of n nodes
@@ -60,7 +60,7 @@ holds_written n ls i m few t z h =
     }
 
 -- a link of a rising list
-pub rising_at : (n : ℕ) (p : Link) (ls : List Link) (i : ℕ) (d : Link) → rising_from n p ls ≡ true → i < length ls → ((get_or ls i d).a.0 < (get_or ls i d).b.0) × ((get_or ls i d).b.0 < n)
+pub rising_at : (n : ℕ) (p : Link) (ls : List Link) (i : ℕ) (d : Link) → rising_from n p ls ≡ true → i < length ls → ((get_or ls i d).a < (get_or ls i d).b) × ((get_or ls i d).b < n)
 rising_at n p [] i d t h = absurd (omega arith)
 rising_at n p (l ∷ ls) zero d t h = let f = (rising_parts n p l ls t).0 in (f.order, f.within)
 rising_at n p (l ∷ ls) (suc i) d t h = rising_at n l ls i d (rising_parts n p l ls t).1 (omega arith)
@@ -99,25 +99,25 @@ put_at a b v m p q len x y w =
       ]
     ]
 
-put_holds : (n : ℕ) (l : Link) (ls : List Link) (m : List ℕ) → n ≤ 64 → l.a.0 < n → l.b.0 < n → length m ≡ 4096 → Holds n (cost_in ls) m → Holds n (cost_in (l ∷ ls)) (put l.a.0 l.b.0 l.cost m)
+put_holds : (n : ℕ) (l : Link) (ls : List Link) (m : List ℕ) → n ≤ 64 → l.a < n → l.b < n → length m ≡ 4096 → Holds n (cost_in ls) m → Holds n (cost_in (l ∷ ls)) (put l.a l.b l.cost m)
 unfolding cost_in
 put_holds n l ls m few p q len h x y w =
-    put_at l.a.0 l.b.0 l.cost m (omega arith) (omega arith) len x y (omega (arith, w.1)) ∙ ap (λ c. cond (joins (ends_of l) x y) l.cost c) (h x y w)
+    put_at l.a l.b l.cost m (omega arith) (omega arith) len x y (omega (arith, w.1)) ∙ ap (λ c. cond (joins (ends_of l) x y) l.cost c) (h x y w)
 
 -- the link that comes next, once k were taken from the end of the list
 pub from_end : (n : ℕ) (ls : List Link) (k : ℕ) (l : Link) → rising n ls ≡ true → (k < length (reverse ls)) × (l ≡ get_or (reverse ls) k l) →
-    (k < length ls) × (drop (length ls - (k + 1)) ls ≡ (l ∷ drop (length ls - k) ls)) × (l.a.0 < l.b.0) × (l.b.0 < n)
+    (k < length ls) × (drop (length ls - (k + 1)) ls ≡ (l ∷ drop (length ls - k) ls)) × (l.a < l.b) × (l.b < n)
 from_end n ls k l t h =
     let q : k < length ls = omega (arith, h.0, length-reverse ls) in
     let i = length ls - (k + 1) in
     let j : length ls - 1 - k ≡ i = omega arith in
     let e : l ≡ get_or ls i start = h.1 ∙ (get_or-reverse ls k l q ∙ (ap (λ x. get_or ls x l) j ∙ get_or_default ls i l start (omega arith))) in
     let u : i + 1 ≡ length ls - k = omega arith in
-    let b = subst (λ (x : Link). (x.a.0 < x.b.0) × (x.b.0 < n)) (sym e) (rising_at n start ls i start t (omega arith)) in
+    let b = subst (λ (x : Link). (x.a < x.b) × (x.b < n)) (sym e) (rising_at n start ls i start t (omega arith)) in
     (q, drop_more ls i start (omega arith) ∙ ap₂ (λ x y. x ∷ drop y ls) (sym e) u, b.0, b.1)
 
 pub holds_more : (n : ℕ) (ls : List Link) (k : ℕ) (l : Link) (m : List ℕ) → n ≤ 64 → rising n ls ≡ true → (k < length (reverse ls)) × (l ≡ get_or (reverse ls) k l) → length m ≡ 4096 →
-    Holds n (cost_in (drop (length ls - k) ls)) m → Holds n (cost_in (drop (length ls - (k + 1)) ls)) (put l.a.0 l.b.0 l.cost m)
+    Holds n (cost_in (drop (length ls - k) ls)) m → Holds n (cost_in (drop (length ls - (k + 1)) ls)) (put l.a l.b l.cost m)
 holds_more n ls k l m few t q len h =
     let e = from_end n ls k l t q in
     rw e.1 (put_holds n l (drop (length ls - k) ls) m few (omega (arith, e.2, e.3)) e.3 len h)

@@ -2,8 +2,8 @@
 use Rattle.std.proofs.Common.{◌≡◌, ℕ, ◌+◌, ◌<◌, ◌≤◌, true, eqb, ltb, ◌⊎◌, List, get_or, Some, None, Option, sym, refl, ap, ◌∙◌, inl, inr, arith}
 use Rattle.std.proofs.lemmas.Bool.{ltb-true, lt-ltb, ne_eqb, cases_lt, cases_eq, cases_Bool, cond-true, cond-false}
 use Rattle.routes.specs.NextHops.{Near}
-use Rattle.links.specs.NodeSets.{has}
-use Rattle.links.specs.declared.node_set.NodeSet.{NodeSet}
+use Rattle.types.specs.NodeSets.{has}
+use Rattle.types.specs.declared.node_set.NodeSet.{NodeSet}
 use Rattle.routes.specs.Distances.{decoded, Filled}
 use Rattle.theory.specs.NextHop.{next_hop, AsNear}
 use Rattle.theory.specs.Distance.{distance}

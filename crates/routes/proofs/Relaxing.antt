@@ -3,8 +3,8 @@ use Rattle.std.proofs.Common.{◌≡◌, ℕ, ◌+◌, ◌<◌, ◌≤◌, Bool,
 use Rattle.std.proofs.lemmas.Bool.{both_ways, cases_eq, and_from, and_right, cond-true, cond-false}
 use Rattle.std.proofs.lemmas.List.{get_or-set_same, get_or-set_other}
 use Rattle.std.proofs.Math.Bool.{and-true}
-use Rattle.links.specs.NodeSets.{has}
-use Rattle.links.specs.declared.node_set.NodeSet.{NodeSet}
+use Rattle.types.specs.NodeSets.{has}
+use Rattle.types.specs.declared.node_set.NodeSet.{NodeSet}
 use Rattle.theory.specs.Network.{Network}
 use Rattle.routes.specs.Dijkstra.{relaxed, Relaxes, LeastOver}
 use Rattle.routes.proofs.Settled.{relaxed_is}

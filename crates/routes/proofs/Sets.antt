@@ -2,8 +2,8 @@
 use Rattle.std.proofs.Common.{◌≡◌, ℕ, ◌<◌, true, false, not, ◌&&◌, eqb, sym, refl, ap, ◌∙◌}
 use Rattle.std.proofs.lemmas.Bool.{eq-eqb, ne_eqb, and_parts, and_right}
 use Rattle.std.proofs.Math.Bool.{and-true}
-use Rattle.links.specs.NodeSets.{has}
-use Rattle.links.specs.declared.node_set.NodeSet.{NodeSet}
+use Rattle.types.specs.NodeSets.{has}
+use Rattle.types.specs.declared.node_set.NodeSet.{NodeSet}
 use Rattle.theory.proofs.Distances.{count, count_lt}
 
 -- how many nodes are in it

@@ -5,8 +5,8 @@ use Rattle.std.proofs.lemmas.List.{get_or-set_same, get_or-set_other}
 use Rattle.routes.specs.Distances.{decoded, Filled}
 use Rattle.routes.specs.Dijkstra.{relaxed, Relaxes, NoneNearer, Nearest}
 use Rattle.routes.specs.Settling.{Partly, Standing}
-use Rattle.links.specs.NodeSets.{has}
-use Rattle.links.specs.declared.node_set.NodeSet.{NodeSet}
+use Rattle.types.specs.NodeSets.{has}
+use Rattle.types.specs.declared.node_set.NodeSet.{NodeSet}
 use Rattle.routes.proofs.Sets as sets
 use Rattle.routes.proofs.Sets.{left_in, gone, same_other}
 use Rattle.theory.specs.Distance.{IsPath, path_cost, distance, Found}
@@ -14,7 +14,6 @@ use Rattle.theory.specs.Network.{Network, Lawful, Limited}
 use Rattle.theory.proofs.Distances.{distance_dist}
 use Rattle.theory.proofs.HopPaths.{bounded}
 use Rattle.theory.proofs.Paths.{sound}
-use Rattle.links.specs.declared.node.NodeId.{NodeId}
 
 -- no path from a free node costs less than the nearest of them is far
 pub free_least : (z : Network) → Lawful z → (d : ℕ) (o : ℕ → Bool) (f : ℕ → ℕ) → Partly z d o f → (m : ℕ) → ((k : ℕ) → k < z.n → o k ≡ true → m ≤ f k) →
@@ -203,37 +202,37 @@ module _ (z : Network) (g : Lawful z) (s : Limited z) (d : ℕ) where
     stands_all n = record { size = i.size; each = λ a h. partly_all z g s d (has o) (λ v. get_or dist v 0) i.part (λ v p q. n v q) a h }
 
     -- the nearest of them is settled
-    module _ (u : NodeId) (n : Nearest o dist u.0) (less : NodeSet) (t : sets.Less u.0 o less) where
-      picks_of : Picks z (has o) (λ v. get_or dist v 0) u.0
-      picks_of = record { within = i.within u.0 n.in_set; free = n.in_set; some = n.some; least = λ v p q. n.least v q }
+    module _ (u : ℕ) (n : Nearest o dist u) (less : NodeSet) (t : sets.Less u o less) where
+      picks_of : Picks z (has o) (λ v. get_or dist v 0) u
+      picks_of = record { within = i.within u n.in_set; free = n.in_set; some = n.some; least = λ v p q. n.least v q }
 
-      less_of : Less u.0 (has o) (has less)
-      less_of = record { here = gone o less u.0 t; others = λ v ne. same_other o less u.0 t v ne }
+      less_of : Less u (has o) (has less)
+      less_of = record { here = gone o less u t; others = λ v ne. same_other o less u t v ne }
 
-      pub stands_more : (to : NodeSet) (new : List ℕ) → ((e : ℕ) → has to e ≡ (ltb 0 (z.cost u.0 e) && has less e)) → Relaxes z u.0 (get_or dist u.0 0) to dist new → Standing z d less new
+      pub stands_more : (to : NodeSet) (new : List ℕ) → ((e : ℕ) → has to e ≡ (ltb 0 (z.cost u e) && has less e)) → Relaxes z u (get_or dist u 0) to dist new → Standing z d less new
       stands_more to new q r =
-          let c = λ (e : ℕ). relaxed (z.cost u.0 e) (get_or dist u.0 0) (get_or dist e 0) in
+          let c = λ (e : ℕ). relaxed (z.cost u e) (get_or dist u 0) (get_or dist e 0) in
           record {
-            within = λ v h. i.within v (left_in o less u.0 t v h);
+            within = λ v h. i.within v (left_in o less u t v h);
             size = r.size ∙ i.size;
             aim = i.aim;
-            part = partly_more z d (has o) (has less) (λ v. get_or dist v 0) (λ v. get_or new v 0) u.0 (record {
+            part = partly_more z d (has o) (has less) (λ v. get_or dist v 0) (λ v. get_or new v 0) u (record {
               lawful = g;
               before = i.part;
               aim = i.aim;
               picks = picks_of;
               less = less_of;
               relaxes = λ e h p.
-                  let x = relaxed_is (z.cost u.0 e) (get_or dist u.0 0) (get_or dist e 0) in
-                  subst (Relaxed (z.cost u.0 e) (get_or dist u.0 0) (get_or dist e 0)) (sym (r.each e h)) (elim (cases_Bool (has to e)) [
-                    | inl y ↦ subst (Relaxed (z.cost u.0 e) (get_or dist u.0 0) (get_or dist e 0)) (sym (cond-true (has to e) (c e) (get_or dist e 0) y)) x
+                  let x = relaxed_is (z.cost u e) (get_or dist u 0) (get_or dist e 0) in
+                  subst (Relaxed (z.cost u e) (get_or dist u 0) (get_or dist e 0)) (sym (r.each e h)) (elim (cases_Bool (has to e)) [
+                    | inl y ↦ subst (Relaxed (z.cost u e) (get_or dist u 0) (get_or dist e 0)) (sym (cond-true (has to e) (c e) (get_or dist e 0) y)) x
                     | inr y ↦
-                        let none : z.cost u.0 e ≡ 0 = elim (cases_lt 0 (z.cost u.0 e)) [
-                          | inl k ↦ absurd (both_ways (has to e) y (q e ∙ and_from (ltb 0 (z.cost u.0 e)) (has less e) (lt-ltb 0 (z.cost u.0 e) k) p))
+                        let none : z.cost u e ≡ 0 = elim (cases_lt 0 (z.cost u e)) [
+                          | inl k ↦ absurd (both_ways (has to e) y (q e ∙ and_from (ltb 0 (z.cost u e)) (has less e) (lt-ltb 0 (z.cost u e) k) p))
                           | inr k ↦ omega arith
                         ] in
-                        subst (Relaxed (z.cost u.0 e) (get_or dist u.0 0) (get_or dist e 0)) (sym (cond-false (has to e) (c e) (get_or dist e 0) y)) (record { less = omega arith; over = λ k. absurd (omega arith); one = inl refl })
+                        subst (Relaxed (z.cost u e) (get_or dist u 0) (get_or dist e 0)) (sym (cond-false (has to e) (c e) (get_or dist e 0) y)) (record { less = omega arith; over = λ k. absurd (omega arith); one = inl refl })
                   ]);
-              kept = λ e h p. r.each e h ∙ cond-false (has to e) (c e) (get_or dist e 0) (q e ∙ and_right (ltb 0 (z.cost u.0 e)) (has less e) p);
+              kept = λ e h p. r.each e h ∙ cond-false (has to e) (c e) (get_or dist e 0) (q e ∙ and_right (ltb 0 (z.cost u e)) (has less e) p);
             });
           }

@@ -12,8 +12,8 @@ use Rattle.theory.proofs.NextHops.{next_hop_here}
 use Rattle.theory.proofs.Without.{untouched, lawful_without}
 use Rattle.routes.specs.Distances.{decoded}
 use Rattle.routes.specs.Dijkstra.{LeastOver}
-use Rattle.links.specs.NodeSets.{has}
-use Rattle.links.specs.declared.node_set.NodeSet.{NodeSet}
+use Rattle.types.specs.NodeSets.{has}
+use Rattle.types.specs.declared.node_set.NodeSet.{NodeSet}
 use Rattle.routes.specs.Settling.{Standing}
 use Rattle.routes.specs.Touched.{Touched}
 use Rattle.routes.proofs.Sets.{Less, left_in, same_other}

@@ -1,15 +1,11 @@
 -- Next hops, paths and the use of a link, a step at a time. Assumes nothing.
-use Rattle.std.proofs.Common.{◌≡◌, ℕ, ◌<◌, Bool, true, false, ◌||◌, List, [], ◌∷◌, ◌++◌, Some, None, Option, Result, sym, refl, ap, ◌∙◌, subst, append_assoc, append-nil, MatchResult}
-use Rattle.std.proofs.lemmas.List.{map_push}
-use Rattle.std.proofs.lemmas.Result.{MatchResult-weaker}
-use Rattle.routes.specs.NextHops.{numbers}
+use Rattle.std.proofs.Common.{◌≡◌, ℕ, ◌<◌, Bool, true, false, ◌||◌, List, [], ◌∷◌, ◌++◌, Some, None, Option, sym, refl, ap, ◌∙◌, subst, append_assoc, append-nil}
 use Rattle.theory.specs.NextHop.{next_hop, path, uses}
 use Rattle.theory.specs.Distance.{IsPath}
 use Rattle.theory.specs.Network.{joins, Network, Lawful, LinkId}
 use Rattle.theory.proofs.NextHops.{next_hop_is}
 use Rattle.theory.proofs.HopPaths.{hops, hops_fall, path_stop, path_to, uses_stop, uses_to}
 use Rattle.theory.proofs.Paths.{sound}
-use Rattle.links.specs.declared.node.NodeId.{NodeId}
 
 module _ (z : Network) (g : Lawful z) (d : ℕ) where
   path_within : (a : ℕ) (ws : List ℕ) → a < z.n → IsPath z d a ws → d < z.n
@@ -41,15 +37,10 @@ module _ (z : Network) (g : Lawful z) (d : ℕ) where
   pub uses_on : (r : LinkId) (a e : ℕ) (x : Bool) → Some e ≡ next_hop z d a → x ≡ uses z r d e → false ≡ joins r a e → x ≡ uses z r d a
   uses_on r a e x p t q = t ∙ sym (uses_to z g r d a e (sym p) ∙ ap (λ b. b || uses z r d e) (sym q))
 
-  pub path_none : (a : ℕ) (xs : List NodeId) → None ≡ next_hop z d a → numbers xs ≡ numbers xs ++ path z d a
-  path_none a xs p = sym (ap (λ l. numbers xs ++ l) (path_stop z d a (sym p)) ∙ append-nil (numbers xs))
+  pub path_none : (a : ℕ) (xs : List ℕ) → None ≡ next_hop z d a → xs ≡ xs ++ path z d a
+  path_none a xs p = sym (ap (λ l. xs ++ l) (path_stop z d a (sym p)) ∙ append-nil xs)
 
-  path_more : (a : ℕ) (e : NodeId) (xs ys : List NodeId) → Some e.0 ≡ next_hop z d a → ys ≡ xs ++ e ∷ [] → numbers ys ++ path z d e.0 ≡ numbers xs ++ path z d a
+  pub path_more : (a e : ℕ) (xs ys : List ℕ) → Some e ≡ next_hop z d a → ys ≡ xs ++ e ∷ [] → ys ++ path z d e ≡ xs ++ path z d a
   path_more a e xs ys p q =
-      ap (λ l. numbers l ++ path z d e.0) q ∙
-      (ap (λ l. l ++ path z d e.0) (map_push (λ v. v.0) xs e) ∙
-      (append_assoc (numbers xs) (e.0 ∷ []) (path z d e.0) ∙ ap (λ l. numbers xs ++ l) (sym (path_to z g d a e.0 (sym p)))))
-
-  pub path_on : {V F : Type 0} (f : V → List NodeId) (Q : F → Type 0) (r : Result V F) (a : ℕ) (e : NodeId) (xs ys : List NodeId) → Some e.0 ≡ next_hop z d a → ys ≡ xs ++ e ∷ [] →
-      MatchResult r (λ v. numbers (f v) ≡ numbers ys ++ path z d e.0) Q → MatchResult r (λ v. numbers (f v) ≡ numbers xs ++ path z d a) Q
-  path_on f Q r a e xs ys p q h = MatchResult-weaker r h (λ v i. i ∙ path_more a e xs ys p q) (λ v i. i)
+      ap (λ l. l ++ path z d e) q ∙
+      (append_assoc xs (e ∷ []) (path z d e) ∙ ap (λ l. xs ++ l) (sym (path_to z g d a e (sym p))))

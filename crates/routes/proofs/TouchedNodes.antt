@@ -4,8 +4,8 @@ use Rattle.std.proofs.lemmas.Bool.{both_ways, cases_eq, cases_lt, cases_Bool, eq
 use Rattle.theory.specs.Network.{Network, Lawful, Limited, LinkId, joins}
 use Rattle.theory.specs.NextHop.{at_hop, uses, next_hop}
 use Rattle.theory.proofs.NextHops.{next_hop_is}
-use Rattle.links.specs.NodeSets.{has}
-use Rattle.links.specs.declared.node_set.NodeSet.{NodeSet}
+use Rattle.types.specs.NodeSets.{has}
+use Rattle.types.specs.declared.node_set.NodeSet.{NodeSet}
 use Rattle.routes.specs.Neighbours.{set_at}
 use Rattle.routes.specs.Touched.{Touched, Sorted, sends_over, sends_to}
 use Rattle.routes.specs.declared.routes.touched.Senders.{Senders}

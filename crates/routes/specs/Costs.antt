@@ -2,7 +2,7 @@
 use Rattle.std.specs.Prelude.{◌≡◌, ℕ, ◌+◌, ◌*◌, ◌<◌, ◌≤◌, cond, ◌&&◌, List, length, Some, None, Option, ◌==◌, nat_lt, slice_index, slice_set}
 use Rattle.links.specs.Links.{network_of}
 use Rattle.theory.specs.Network.{Network, LinkId, without}
-use Rattle.links.specs.declared.link.Link.{Link}
+use Rattle.types.specs.declared.link.Link.{Link}
 
 -- the cost in row a and column b; only the first n of each count
 abbrev pub cost_at : ℕ → List ℕ → ℕ → ℕ → ℕ

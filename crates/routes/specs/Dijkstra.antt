@@ -1,8 +1,7 @@
 -- The steps of Dijkstra's algorithm. Assumes nothing.
 use Rattle.std.specs.Prelude.{◌≡◌, ℕ, ◌+◌, ◌<◌, ◌≤◌, true, cond, ◌&&◌, ◌⊎◌, List, length, Option, MatchOption, nat_lt, slice_index, slice_index_or}
-use Rattle.links.specs.NodeSets.{has}
-use Rattle.links.specs.declared.node.NodeId.{NodeId}
-use Rattle.links.specs.declared.node_set.NodeSet.{NodeSet}
+use Rattle.types.specs.NodeSets.{has}
+use Rattle.types.specs.declared.node_set.NodeSet.{NodeSet}
 use Rattle.theory.specs.Network.{Network}
 
 -- the distance once the link of that cost, to a node at the distance here, is taken into account
@@ -35,5 +34,5 @@ pub record Nearest (s : NodeSet) (dist : List ℕ) (u : ℕ) : Type 0 where
   pub some : slice_index_or dist u 0 < 4294967295
   pub least : (v : ℕ) → has s v ≡ true → slice_index dist u ≤ slice_index dist v
 
-abbrev pub IsNearest : NodeSet → List ℕ → Option NodeId → Type 0
-IsNearest s dist r = MatchOption r (NoneNearer s dist) (λ u. Nearest s dist u.0)
+abbrev pub IsNearest : NodeSet → List ℕ → Option ℕ → Type 0
+IsNearest s dist r = MatchOption r (NoneNearer s dist) (λ u. Nearest s dist u)

@@ -1,7 +1,7 @@
 -- The neighbours of each node, as sets. Assumes nothing.
 use Rattle.std.specs.Prelude.{◌≡◌, ℕ, ◌<◌, List, nat_lt, slice_index_or}
-use Rattle.links.specs.NodeSets.{has}
-use Rattle.links.specs.declared.node_set.NodeSet.{NodeSet}
+use Rattle.types.specs.NodeSets.{has}
+use Rattle.types.specs.declared.node_set.NodeSet.{NodeSet}
 use Rattle.routes.specs.Costs.{cost_at}
 
 -- in a list of sets, that of the node a

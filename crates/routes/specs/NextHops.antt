@@ -1,34 +1,24 @@
 -- Next hops as the code has them, and how they are found from distances. Assumes nothing.
-use Rattle.std.specs.Prelude.{◌≡◌, ℕ, ◌+◌, ◌-◌, ◌*◌, ◌<◌, List, map, get_or, None, Option, slice_index, slice_index_or}
-use Rattle.std.specs.Option.{option_map}
-use Rattle.links.specs.declared.node.NodeId.{NodeId}
+use Rattle.std.specs.Prelude.{◌≡◌, ℕ, ◌+◌, ◌-◌, ◌*◌, ◌<◌, List, get_or, None, Option, slice_index, slice_index_or}
 use Rattle.theory.specs.Network.{Network}
 use Rattle.theory.specs.NextHop.{next_hop}
 use Rattle.routes.specs.Distances.{Filled}
 
--- a next hop by its number
-abbrev pub hop_of : Option NodeId → Option ℕ
-hop_of h = option_map (λ v. v.0) h
-
--- nodes by their numbers
-abbrev pub numbers : List NodeId → List ℕ
-numbers ns = map (λ v. v.0) ns
-
 -- h is the next hop of a for d, whatever d the distances go to
-abbrev pub HopBy : Network → List ℕ → ℕ → Option NodeId → Type 0
-HopBy z dist a h = (d : ℕ) → Filled z d dist → hop_of h ≡ next_hop z d a
+abbrev pub HopBy : Network → List ℕ → ℕ → Option ℕ → Type 0
+HopBy z dist a h = (d : ℕ) → Filled z d dist → h ≡ next_hop z d a
 
 -- so l has those of the first k nodes
-abbrev pub HopsBy : Network → List ℕ → ℕ → List (Option NodeId) → Type 0
+abbrev pub HopsBy : Network → List ℕ → ℕ → List (Option ℕ) → Type 0
 HopsBy z dist k l = (a : ℕ) → a < k → HopBy z dist a (slice_index_or l a None)
 
 -- l has the next hop of each node for d
-abbrev pub HopRow : Network → ℕ → List (Option NodeId) → Type 0
-HopRow z d l = (a : ℕ) → a < z.n → hop_of (slice_index_or l a None) ≡ next_hop z d a
+abbrev pub HopRow : Network → ℕ → List (Option ℕ) → Type 0
+HopRow z d l = (a : ℕ) → a < z.n → slice_index_or l a None ≡ next_hop z d a
 
 -- in the first k rows of 64, row d has the next hop of each node for d
-abbrev pub HopRows : Network → ℕ → List (Option NodeId) → Type 0
-HopRows z k l = (d a : ℕ) → (d < k) × (a < z.n) → hop_of (slice_index_or l (d * 64 + a) None) ≡ next_hop z d a
+abbrev pub HopRows : Network → ℕ → List (Option ℕ) → Type 0
+HopRows z k l = (d a : ℕ) → (d < k) × (a < z.n) → slice_index_or l (d * 64 + a) None ≡ next_hop z d a
 
 -- by its link to e, at that price, a node at the distance here is as near as it can be
 pub record Near (price : ℕ) (dist : List ℕ) (here e : ℕ) : Type 0 where

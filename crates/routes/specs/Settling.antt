@@ -1,7 +1,7 @@
 -- A search for the distances of all nodes from one, while it runs. Assumes nothing.
 use Rattle.std.specs.Prelude.{◌≡◌, ℕ, ◌+◌, ◌<◌, ◌≤◌, Bool, false, List, length, slice_index}
-use Rattle.links.specs.NodeSets.{has}
-use Rattle.links.specs.declared.node_set.NodeSet.{NodeSet}
+use Rattle.types.specs.NodeSets.{has}
+use Rattle.types.specs.declared.node_set.NodeSet.{NodeSet}
 use Rattle.theory.specs.Network.{Network}
 use Rattle.theory.specs.Distance.{IsPath, path_cost, Found}
 use Rattle.routes.specs.Dijkstra.{AllBelow}

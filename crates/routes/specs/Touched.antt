@@ -2,8 +2,8 @@
 use Rattle.std.specs.Prelude.{◌≡◌, ℕ, ◌<◌, Bool, not, ◌&&◌, ◌==◌, length, nat_lt}
 use Rattle.theory.specs.Network.{Network, LinkId, joins}
 use Rattle.theory.specs.NextHop.{at_hop, next_hop, uses}
-use Rattle.links.specs.NodeSets.{has}
-use Rattle.links.specs.declared.node_set.NodeSet.{NodeSet}
+use Rattle.types.specs.NodeSets.{has}
+use Rattle.types.specs.declared.node_set.NodeSet.{NodeSet}
 use Rattle.routes.specs.Neighbours.{set_at}
 use Rattle.routes.specs.declared.routes.touched.Senders.{Senders}
 

@@ -3,8 +3,8 @@ ghost use Rattle.links.specs.Links.{IsNodeCount};
 ghost use Rattle.routes.specs.Costs.{put, Symmetric, Loopless, Light};
 ghost use Rattle.routes.specs.Neighbours.{LinkedEach};
 
-use links::node::NodeId;
-use links::node_set::NodeSet;
+use types::NodeId;
+use types::NodeSet;
 use std::ops::Range;
 
 pub mod build;
@@ -33,14 +33,14 @@ pub struct CostMatrix {
 // Where the entry of b stands in row a, in rows of 64. There is no type for such a table: tables are lent as slices, a form
 // that was asked for.
 pub fn cell(a: NodeId, b: NodeId) -> usize
-    ensures { result ≡ a.0 * 64 + b.0 }
+    ensures { result ≡ a * 64 + b }
 {
-    a.0 as usize * 64 + b.0 as usize
+    a.number() as usize * 64 + b.number() as usize
 }
 
 // Where row a stands, of as many entries as there are nodes.
 pub fn row_of(a: NodeId, nodes: u8) -> Range<usize>
-    ensures { result ≡ record { start = a.0 * 64; end = a.0 * 64 + nodes } }
+    ensures { result ≡ record { start = a * 64; end = a * 64 + nodes } }
 {
     let start = cell(a, NodeId(0));
     start..start + nodes as usize
@@ -48,8 +48,8 @@ pub fn row_of(a: NodeId, nodes: u8) -> Range<usize>
 
 // Writes what the link between a and b costs, both ways.
 fn put(costs: &mut [u16; 4096], a: NodeId, b: NodeId, cost: u16)
-    requires { (a.0 < 64) × (b.0 < 64) }
-    ensures { costs.new ≡ put a.0 b.0 cost costs.old }
+    requires { (a < 64) × (b < 64) }
+    ensures { costs.new ≡ put a b cost costs.old }
 {
     costs[cell(a, b)] = cost;
     costs[cell(b, a)] = cost;
@@ -58,14 +58,14 @@ fn put(costs: &mut [u16; 4096], a: NodeId, b: NodeId, cost: u16)
 impl CostMatrix {
     // Is it one of the nodes?
     fn has(&self, a: NodeId) -> bool
-        ensures { IsTrue result ↔ a.0 < self.now.nodes }
+        ensures { IsTrue result ↔ a < self.now.nodes }
     {
         a.is_below(self.nodes)
     }
 
     // The cell of row a and column b, if both are nodes.
     pub(crate) fn place(&self, a: NodeId, b: NodeId) -> Option<usize>
-        ensures { MatchOption result ((self.now.nodes ≤ a.0) ⊎ (self.now.nodes ≤ b.0)) (λ i. (a.0 < self.now.nodes) × (b.0 < self.now.nodes) × (i ≡ a.0 * 64 + b.0)) }
+        ensures { MatchOption result ((self.now.nodes ≤ a) ⊎ (self.now.nodes ≤ b)) (λ i. (a < self.now.nodes) × (b < self.now.nodes) × (i ≡ a * 64 + b)) }
     {
         (self.has(a) && self.has(b)).then(|| cell(a, b))
     }

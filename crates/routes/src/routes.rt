@@ -3,7 +3,7 @@ ghost use Rattle.routes.specs.Matrix.{matrix_network};
 ghost use Rattle.routes.specs.NextHops.{HopRows};
 
 use crate::matrix::CostMatrix;
-use links::node::NodeId;
+use types::NodeId;
 
 pub mod build;
 pub mod failing;

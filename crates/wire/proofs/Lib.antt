@@ -1,6 +1,6 @@
-pub mod Fronts
-pub mod Reading
-pub mod Headers
-pub mod PacketBytes
+pub mod Bytes
+pub mod ListBytes
 pub mod MessageBytes
-pub mod Writing
+pub mod PacketBytes
+pub mod Pieces
+pub mod Written

@@ -1,4 +1,7 @@
-pub mod Pieces
+pub mod Cursor
+pub mod Frames
 pub mod Kinds
-pub mod Packets
+pub mod Lists
 pub mod Messages
+pub mod Packets
+pub use Rattle.types.specs.Packet

@@ -1,40 +1,45 @@
 ghost use Rattle.std.specs.Prelude.{◌≡◌};
 ghost use Rattle.wire.specs.Kinds.{kind_in};
 
-use links::fault::Fault;
-use links::unread::Unread;
-use links::wire::{LINKS, ReadError};
+use crate::cursor::Cursor;
+use crate::error::ReadError;
+use types::ReadFault;
 
-// The first byte of each kind; that of a list of links stands in `links`.
+// The first byte of each kind.
+pub(crate) const LINKS: u8 = 1;
+
 pub(crate) const PACKET: u8 = 2;
 
 pub(crate) const LINK_DOWN: u8 = 3;
 
 pub(crate) const SWITCHED: u8 = 4;
 
-// What a frame holds.
+/// What a frame holds.
 #[derive(Clone, Copy, PartialEq, Eq, Debug)]
 pub enum Kind {
-    // for `Topology::read`
+    /// for `parse_links`
     Links,
-    // for `read_packet`
+    /// for `parse_packet`
     Packet,
-    // for `read_message`
+    /// for `parse_message`
     LinkDown,
+    /// for `parse_message`
     Switched,
 }
 
-// By its first byte.
+/// By its first byte.
 pub fn kind_of(bytes: &[u8]) -> Result<Kind, ReadError>
     ensures { result ≡ kind_in bytes.now }
 {
-    let kind = match bytes {
-        [] => Err(Fault::Truncated),
-        [LINKS, ..] => Ok(Kind::Links),
-        [PACKET, ..] => Ok(Kind::Packet),
-        [LINK_DOWN, ..] => Ok(Kind::LinkDown),
-        [SWITCHED, ..] => Ok(Kind::Switched),
-        _ => Err(Fault::UnknownKind),
+    let cursor = Cursor::new(bytes);
+    let [kind, ..] = bytes else {
+        return Err(cursor.refuse(ReadFault::Truncated));
     };
-    Unread::new(bytes).piece(kind)
+    match *kind {
+        LINKS => Ok(Kind::Links),
+        PACKET => Ok(Kind::Packet),
+        LINK_DOWN => Ok(Kind::LinkDown),
+        SWITCHED => Ok(Kind::Switched),
+        _ => Err(cursor.refuse(ReadFault::UnknownKind)),
+    }
 }

@@ -1,9 +1,18 @@
-// The bytes of packets and of the messages between routers: read, and written.
+//! The bytes of lists of links, packets, messages and frames: a parse and an emit each.
 #![tactic(auto)]
 
+mod cursor;
+pub mod error;
+pub mod frame;
 pub mod kind;
+pub mod list;
 pub mod message;
-pub mod origin;
 pub mod packet;
-mod pieces;
 mod segment;
+
+pub use error::{LinksError, ReadError};
+pub use frame::{Frame, Frames, emit_message_to, emit_packet_to, next_frame};
+pub use kind::{Kind, kind_of};
+pub use list::{emit_links, parse_links};
+pub use message::{emit_message, parse_message};
+pub use packet::{Origin, emit_packet, parse_packet};

@@ -1,73 +1,74 @@
-// The bytes of a segment: 0 and a node, or 1 and the two nodes of a link.
-ghost use Rattle.std.specs.Prelude.{◌≡◌};
+//! The bytes of a segment: 0 and a node, or 1 and the two nodes of a link.
+ghost use Rattle.std.specs.Prelude.{◌≡◌, ℕ, ◌++◌, Err, IsErr, List, MatchOption, OnErr, OnOk, Ok};
 ghost use Rattle.std.specs.List.{flat_map};
-ghost use Rattle.std.specs.Result.{result_map_both};
-ghost use Rattle.packets.specs.Segments.{segment_of};
-ghost use Rattle.wire.specs.Pieces.{unless, judged, Put, Begun};
-ghost use Rattle.wire.specs.Packets.{segment_bytes, segment_at, segment_fault};
+ghost use Rattle.wire.specs.Cursor.{unless};
+ghost use Rattle.wire.specs.Packets.{segment_at, segment_bytes, segment_fault};
 
-use crate::pieces::put;
-use links::fault::Fault;
-use links::link::LinkId;
-use links::node::NodeId;
-use packets::segment::Segment;
+use std::alloc::AllocError;
+use types::{LinkId, NodeId, ReadFault, Segment};
 
 // The first byte of each.
 const NODE: u8 = 0;
 
 const LINK: u8 = 1;
 
-// The segment in front, and the bytes after it.
-fn front(bytes: &[u8]) -> Result<(Segment, &[u8]), Fault>
-    ensures { result_map_both (λ p. (segment_of p.0, p.1.now)) (λ f. f) result ≡ segment_at bytes.now }
+/// The segment in front, and the bytes after it.
+pub(crate) fn next_segment(bytes: &[u8]) -> Option<(Segment, &[u8])>
+    ensures {
+        let front = segment_at bytes.now in
+        MatchOption result (IsErr front) (λ p. front ≡ Ok (p.0, p.1.now))
+    }
 {
     match bytes {
-        [NODE, node, rest @ ..] => Ok((Segment::Node(NodeId(*node)), rest)),
+        [NODE, node, rest @ ..] => Some((Segment::Node(NodeId(*node)), rest)),
         [LINK, from, to, rest @ ..] => {
             let segment = Segment::Link {
                 from: NodeId(*from),
                 to: NodeId(*to),
             };
-            Ok((segment, rest))
+            Some((segment, rest))
         }
-        [] | [NODE, ..] | [LINK, ..] => Err(Fault::Truncated),
-        _ => Err(Fault::UnknownKind),
+        _ => None,
     }
 }
 
-// Its nodes are below the number of nodes, and a link has two.
-fn check(nodes: u8, segment: Segment) -> Result<(), Fault>
-    ensures { result ≡ unless (segment_fault nodes (segment_of segment)) tt }
+/// Why there is none.
+pub(crate) fn no_segment(bytes: &[u8]) -> ReadFault
+    ensures { IsErr (segment_at bytes.now) → segment_at bytes.now ≡ Err result }
+{
+    match bytes {
+        [] | [NODE, ..] | [LINK, ..] => ReadFault::Truncated,
+        _ => ReadFault::UnknownKind,
+    }
+}
+
+/// Its nodes are below the number of nodes, and a link has two.
+pub(crate) fn check_segment(nodes: u8, segment: &Segment) -> Result<(), ReadFault>
+    ensures { result ≡ unless (segment_fault nodes segment.now) tt }
 {
     match segment {
         Segment::Node(node) => node.check(nodes),
-        Segment::Link { from, to } => LinkId { a: from, b: to }.check(nodes),
+        Segment::Link { from, to } => LinkId { a: *from, b: *to }.check(nodes),
     }
 }
 
-// The segment in front, if it has no fault.
-pub(crate) fn next_segment(bytes: &[u8], nodes: u8) -> Result<(Segment, &[u8]), Fault>
-    ensures { result_map_both (λ p. (segment_of p.0, p.1.now)) (λ f. f) result ≡ judged (segment_fault nodes) (segment_at bytes.now) }
-{
-    let (segment, rest) = front(bytes)?;
-    check(nodes, segment)?;
-    Ok((segment, rest))
-}
-
-fn write_segment(segment: Segment, out: &mut Vec<u8>) -> Result<(), Fault>
-    ensures { Put result out.old.items (segment_bytes (segment_of segment)) out.new.items }
-{
-    match segment {
-        Segment::Node(node) => put(&[NODE, node.0], out),
-        Segment::Link { from, to } => put(&[LINK, from.0, to.0], out),
-    }
-}
-
-pub(crate) fn write_segments(segments: &[Segment], out: &mut Vec<u8>) -> Result<(), Fault>
-    ensures { Begun result out.old.items (flat_map (λ s. segment_bytes (segment_of s)) segments.now) out.new.items }
+/// Puts segments behind what is written already. Where memory is wanting, some of them may stand there.
+pub(crate) fn emit_segments(segments: &[Segment], out: &mut Vec<u8>) -> Result<(), AllocError>
+    ensures ok { OnOk result (out.new.items ≡ out.old.items ++ flat_map segment_bytes segments.now) }
+    ensures err { OnErr result ((some : List ℕ) × (out.new.items ≡ out.old.items ++ some)) }
 {
     for segment in segments {
-        write_segment(*segment, out)?;
+        emit_segment(segment, out)?;
     }
     Ok(())
+}
+
+fn emit_segment(segment: &Segment, out: &mut Vec<u8>) -> Result<(), AllocError>
+    ensures ok { OnOk result (out.new.items ≡ out.old.items ++ segment_bytes segment.now) }
+    ensures err { OnErr result (out.new.items ≡ out.old.items) }
+{
+    match segment {
+        Segment::Node(node) => out.extend_from_slice(&[NODE, node.number()]),
+        Segment::Link { from, to } => out.extend_from_slice(&[LINK, from.number(), to.number()]),
+    }
 }

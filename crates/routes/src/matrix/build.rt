@@ -6,8 +6,8 @@ ghost use Rattle.routes.specs.Matrix.{matrix_network};
 
 use super::neighbours::neighbours_by;
 use super::{CostMatrix, put};
-use links::link::Link;
-use links::topology::Topology;
+use types::Link;
+use links::Topology;
 
 impl CostMatrix {
     // What the links of a topology cost.

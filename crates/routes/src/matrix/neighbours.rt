@@ -1,10 +1,10 @@
 ghost use Rattle.std.specs.Prelude.{◌≡◌, ℕ, ◌+◌, ◌*◌, ◌<◌, ◌≤◌, ◌&&◌, nat_lt, slice_index};
-ghost use Rattle.links.specs.NodeSets.{has};
+ghost use Rattle.types.specs.NodeSets.{has};
 ghost use Rattle.routes.specs.Neighbours.{LinkedEach};
 
 use super::cell;
-use links::node::NodeId;
-use links::node_set::NodeSet;
+use types::NodeId;
+use types::NodeSet;
 
 // The neighbours of each node.
 pub(super) fn neighbours_by(nodes: u8, costs: &[u16; 4096]) -> [NodeSet; 64]
@@ -21,8 +21,8 @@ pub(super) fn neighbours_by(nodes: u8, costs: &[u16; 4096]) -> [NodeSet; 64]
 
 // The nodes to which a node has a link.
 fn linked(nodes: u8, costs: &[u16; 4096], a: NodeId) -> NodeSet
-    requires { (nodes ≤ 64) × (a.0 < 64) }
-    ensures { (b : ℕ) → has result b ≡ (nat_lt b nodes && nat_lt 0 (slice_index costs.now (a.0 * 64 + b))) }
+    requires { (nodes ≤ 64) × (a < 64) }
+    ensures { (b : ℕ) → has result b ≡ (nat_lt b nodes && nat_lt 0 (slice_index costs.now (a * 64 + b))) }
 {
     let mut set = NodeSet::empty();
     for b in 0..nodes {

@@ -5,7 +5,7 @@ ghost use Rattle.routes.specs.NextHops.{HopRows};
 
 use super::surviving::Surviving;
 use super::{CostMatrix, row_of};
-use links::node::NodeId;
+use types::NodeId;
 
 impl CostMatrix {
     // Row by row the distances of each node from d, and its next hops for d.

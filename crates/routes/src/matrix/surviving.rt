@@ -1,5 +1,5 @@
 use super::CostMatrix;
-use links::link::LinkId;
+use types::LinkId;
 
 pub mod hops;
 pub mod parts;

@@ -1,7 +1,6 @@
-ghost use Rattle.std.specs.Prelude.{◌≡◌, ℕ, ◌+◌, ◌*◌, ◌<◌, length, slice_index, None, ◌≢◌};
-ghost use Rattle.links.specs.Link.{ends};
-ghost use Rattle.routes.specs.Distances.{Asked, Filled};
-ghost use Rattle.routes.specs.NextHops.{hop_of, HopRow};
+ghost use Rattle.std.specs.Prelude.{◌≡◌, ℕ, ◌+◌, ◌*◌, ◌<◌, length, slice_index};
+ghost use Rattle.routes.specs.Distances.{Filled};
+ghost use Rattle.routes.specs.NextHops.{HopRow};
 ghost use Rattle.routes.specs.Routes.{routes_network};
 ghost use Rattle.routes.specs.Surviving.{surviving_network};
 ghost use Rattle.routes.specs.Touched.{Touched};
@@ -11,36 +10,28 @@ ghost use Rattle.theory.specs.NextHop.{next_hop};
 use super::Routes;
 use crate::matrix::row_of;
 use crate::matrix::surviving::Surviving;
-use links::fault::Fault;
-use links::link::LinkId;
-use links::node::NodeId;
-use links::node_set::NodeSet;
+use types::LinkId;
+use types::NodeId;
+use types::NodeSet;
 
 impl Routes {
     // The distance of each node from d, or NEVER, when a link fails, into dist.
-    pub fn distances_without(&self, link: LinkId, d: NodeId, dist: &mut [u32]) -> Result<(), Fault>
-        ensures { Asked (without (ends link) (routes_network self.now)) d.0 dist.old dist.new result }
+    pub fn distances_without(&self, link: LinkId, d: NodeId, dist: &mut [u32]) 
+        requires { (d < (routes_network self.now).n) × (length dist.old ≡ (routes_network self.now).n) }
+        ensures { Filled (without link (routes_network self.now)) d dist.new }
     {
-        d.check(self.nodes())?;
-        if dist.len() != self.nodes() as usize {
-            return Err(Fault::WrongLength);
-        }
         self.settle_without(link, d, self.touched(link, d), dist);
-        Ok(())
     }
 
     // The next hop of a for d when a link fails, where dist has the distances to d then; none where it has another length than n.
     pub fn next_hop_without(&self, link: LinkId, a: NodeId, dist: &[u32]) -> Option<NodeId>
-        ensures filled { (d : ℕ) → Filled (without (ends link) (routes_network self.now)) d dist.now → hop_of result ≡ next_hop (without (ends link) (routes_network self.now)) d a.0 }
-        ensures unfit { (length dist.now ≢ (routes_network self.now).n) → result ≡ None }
+        requires { (a < (routes_network self.now).n) × (length dist.now ≡ (routes_network self.now).n) }
+        ensures { (d : ℕ) → Filled (without link (routes_network self.now)) d dist.now → result ≡ next_hop (without link (routes_network self.now)) d a }
     {
-        if dist.len() != self.nodes() as usize || !a.is_below(self.nodes()) {
-            return None;
-        }
         self.surviving(link).hop_of(a, dist)
     }
 
-    // A row for d when a link fails: its distances, and its next hops, which hops has as they are now. Only those of the
+    // A row for d when a link fails: its distances, and its next hops. Only those of the
     // nodes that the link touches are worked out anew.
     pub(super) fn fill_without(
         &self,
@@ -49,51 +40,61 @@ impl Routes {
         dist: &mut [u32],
         hops: &mut [Option<NodeId>],
     )
-        requires within { d.0 < (routes_network self.now).n }
+        requires within { d < (routes_network self.now).n }
         requires size { (length dist.old ≡ (routes_network self.now).n) × (length hops.old ≡ (routes_network self.now).n) }
-        requires next { HopRow (routes_network self.now) d.0 hops.old }
-        ensures near { Filled (without (ends link) (routes_network self.now)) d.0 dist.new }
-        ensures next { HopRow (without (ends link) (routes_network self.now)) d.0 hops.new }
+        ensures near { Filled (without link (routes_network self.now)) d dist.new }
+        ensures next { HopRow (without link (routes_network self.now)) d hops.new }
     {
+        hops.copy_from_slice(self.hops_for(d));
         let touched = self.touched(link, d);
         self.settle_without(link, d, touched, dist);
         let left = self.surviving(link);
         let mut rest = touched;
         while let Some(a) = rest.take_first() {
-            hops[a.0 as usize] = left.hop_of(a, dist);
+            hops[a.index()] = left.hop_of(a, dist);
         }
     }
 
     // The distances from d when a link fails that touches just these nodes: each begins with the least over its links to
     // nodes that it doesn't touch, and then they are settled.
     fn settle_without(&self, link: LinkId, d: NodeId, touched: NodeSet, dist: &mut [u32])
-        requires within { d.0 < (routes_network self.now).n }
+        requires within { d < (routes_network self.now).n }
         requires size { length dist.old ≡ (routes_network self.now).n }
-        requires touched { Touched (routes_network self.now) (ends link) d.0 touched }
-        ensures { Filled (without (ends link) (routes_network self.now)) d.0 dist.new }
+        requires touched { Touched (routes_network self.now) link d touched }
+        ensures { Filled (without link (routes_network self.now)) d dist.new }
     {
         dist.copy_from_slice(self.distances_from(d));
         let left = self.surviving(link);
         let mut rest = touched;
         while let Some(a) = rest.take_first() {
-            dist[a.0 as usize] = left.least_over(a, left.neighbours(a).minus(touched), dist);
+            dist[a.index()] = left.least_over(a, left.neighbours(a).minus(touched), dist);
         }
         left.settle_rest(touched, dist);
     }
 
     // The network that is left.
     fn surviving(&self, link: LinkId) -> Surviving<'_>
-        ensures { surviving_network result ≡ without (ends link) (routes_network self.now) }
+        ensures { surviving_network result ≡ without link (routes_network self.now) }
     {
         Surviving::without(&self.costs, link)
     }
 
     // The distances from d as they are.
     fn distances_from(&self, d: NodeId) -> &[u32]
-        requires { d.0 < (routes_network self.now).n }
+        requires { d < (routes_network self.now).n }
         ensures size { length result.now ≡ (routes_network self.now).n }
-        ensures each { (a : ℕ) → a < (routes_network self.now).n → slice_index result.now a ≡ slice_index self.now.distances (d.0 * 64 + a) }
+        ensures each { (a : ℕ) → a < (routes_network self.now).n → slice_index result.now a ≡ slice_index self.now.distances (d * 64 + a) }
     {
         &self.distances[row_of(d, self.nodes())]
+    }
+
+    // The next hops for d as they are.
+    fn hops_for(&self, d: NodeId) -> &[Option<NodeId>]
+        requires { d < (routes_network self.now).n }
+        ensures size { length result.now ≡ (routes_network self.now).n }
+        ensures next { HopRow (routes_network self.now) d result.now }
+    {
+        let all = &self.hops[..];
+        &all[row_of(d, self.nodes())]
     }
 }

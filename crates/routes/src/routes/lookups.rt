@@ -4,13 +4,12 @@ ghost use Rattle.theory.specs.Distance.{distance};
 ghost use Rattle.theory.specs.NextHop.{next_hop};
 ghost use Rattle.routes.specs.Costs.{link_cost};
 ghost use Rattle.routes.specs.Matrix.{matrix_network};
-ghost use Rattle.routes.specs.NextHops.{hop_of};
 ghost use Rattle.routes.specs.Routes.{routes_network};
 
 use super::Routes;
 use crate::matrix::CostMatrix;
 use crate::matrix::distances::NEVER;
-use links::node::NodeId;
+use types::NodeId;
 
 impl Routes {
     // The costs of the network that the routes are for.
@@ -30,15 +29,15 @@ impl Routes {
 
     // What the link between a and b costs, if there is one.
     pub fn link_cost(&self, a: NodeId, b: NodeId) -> Option<u16>
-        ensures { result ≡ link_cost (routes_network self.now) a.0 b.0 }
+        ensures { result ≡ link_cost (routes_network self.now) a b }
     {
         self.costs.cost(a, b)
     }
 
     // The distance of a from d, if both are nodes and there is a path.
     pub fn distance(&self, d: NodeId, a: NodeId) -> Option<u32>
-        ensures inside { (d.0 < (routes_network self.now).n) × (a.0 < (routes_network self.now).n) → result ≡ distance (routes_network self.now) d.0 a.0 }
-        ensures outside { ((routes_network self.now).n ≤ d.0) ⊎ ((routes_network self.now).n ≤ a.0) → result ≡ None }
+        ensures inside { (d < (routes_network self.now).n) × (a < (routes_network self.now).n) → result ≡ distance (routes_network self.now) d a }
+        ensures outside { ((routes_network self.now).n ≤ d) ⊎ ((routes_network self.now).n ≤ a) → result ≡ None }
         ensures bound { IfSome result (λ c. c ≤ 4128705) }
     {
         match self.distances[self.costs.place(d, a)?] {
@@ -49,7 +48,7 @@ impl Routes {
 
     // The next hop of a for d.
     pub fn next_hop(&self, d: NodeId, a: NodeId) -> Option<NodeId>
-        ensures { hop_of result ≡ next_hop (routes_network self.now) d.0 a.0 }
+        ensures { result ≡ next_hop (routes_network self.now) d a }
     {
         self.hops[self.costs.place(d, a)?]
     }

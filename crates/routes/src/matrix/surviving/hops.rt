@@ -3,7 +3,7 @@ ghost use Rattle.routes.specs.NextHops.{HopBy, HopsBy};
 ghost use Rattle.routes.specs.Surviving.{surviving_network};
 
 use super::Surviving;
-use links::node::NodeId;
+use types::NodeId;
 
 impl<'a> Surviving<'a> {
     // The next hop of each node for d, where dist has the distances to d.
@@ -19,15 +19,15 @@ impl<'a> Surviving<'a> {
     // The lowest-numbered neighbour by which a node is as near as it can be.
     // d itself has none, as no node is nearer, nor has a node at NEVER, as no link costs so much.
     pub(crate) fn hop_of(&self, a: NodeId, dist: &[u32]) -> Option<NodeId>
-        requires { (a.0 < (surviving_network self.now).n) × (length dist.now ≡ (surviving_network self.now).n) }
-        ensures { HopBy (surviving_network self.now) dist.now a.0 result }
+        requires { (a < (surviving_network self.now).n) × (length dist.now ≡ (surviving_network self.now).n) }
+        ensures { HopBy (surviving_network self.now) dist.now a result }
     {
-        let here = dist[a.0 as usize];
+        let here = dist[a.index()];
         // a loop left by its label at the first that is as near, and not a chain: a rule of the project
         let mut found = None;
         let mut rest = self.neighbours(a);
         'nearest: while let Some(e) = rest.take_first() {
-            let there = dist[e.0 as usize];
+            let there = dist[e.index()];
             if there < here && here - there == u32::from(self.cost(a, e)) {
                 found = Some(e);
                 break 'nearest;

@@ -1,5 +1,5 @@
 ghost use Rattle.std.specs.Prelude.{◌≡◌, ℕ, ◌<◌, true, length, slice_index};
-ghost use Rattle.links.specs.NodeSets.{has};
+ghost use Rattle.types.specs.NodeSets.{has};
 ghost use Rattle.routes.specs.Dijkstra.{AllBelow, IsNearest, LeastOver, Relaxes, relaxed};
 ghost use Rattle.routes.specs.Distances.{Filled};
 ghost use Rattle.routes.specs.Settling.{Standing};
@@ -7,17 +7,17 @@ ghost use Rattle.routes.specs.Surviving.{surviving_network};
 
 use super::Surviving;
 use crate::matrix::distances::NEVER;
-use links::node::NodeId;
-use links::node_set::NodeSet;
+use types::NodeId;
+use types::NodeSet;
 
 impl<'a> Surviving<'a> {
     // The distance of each node from d, or NEVER, into dist.
     pub(crate) fn settle(&self, d: NodeId, dist: &mut [u32])
-        requires { (d.0 < (surviving_network self.now).n) × (length dist.old ≡ (surviving_network self.now).n) }
-        ensures { Filled (surviving_network self.now) d.0 dist.new }
+        requires { (d < (surviving_network self.now).n) × (length dist.old ≡ (surviving_network self.now).n) }
+        ensures { Filled (surviving_network self.now) d dist.new }
     {
         dist.fill(NEVER);
-        dist[d.0 as usize] = 0;
+        dist[d.index()] = 0;
         self.settle_rest(NodeSet::below(self.nodes()), dist);
     }
 
@@ -36,28 +36,28 @@ impl<'a> Surviving<'a> {
 
     // The links of a node to others: none of those is farther than it and the link's cost.
     fn relax(&self, u: NodeId, others: NodeSet, dist: &mut [u32])
-        requires within { (u.0 < (surviving_network self.now).n) × (length dist.old ≡ (surviving_network self.now).n) }
-        requires others { (e : ℕ) → has others e ≡ true → 0 < (surviving_network self.now).cost u.0 e }
-        ensures { Relaxes (surviving_network self.now) u.0 (slice_index dist.old u.0) others dist.old dist.new }
+        requires within { (u < (surviving_network self.now).n) × (length dist.old ≡ (surviving_network self.now).n) }
+        requires others { (e : ℕ) → has others e ≡ true → 0 < (surviving_network self.now).cost u e }
+        ensures { Relaxes (surviving_network self.now) u (slice_index dist.old u) others dist.old dist.new }
     {
-        let here = dist[u.0 as usize];
+        let here = dist[u.index()];
         let mut rest = others;
         while let Some(e) = rest.take_first() {
-            let there = dist[e.0 as usize];
-            dist[e.0 as usize] = by_link(self.cost(u, e), here, there);
+            let there = &mut dist[e.index()];
+            *there = by_link(self.cost(u, e), here, *there);
         }
     }
 
     // The least distance of a node by its links to others, where dist has those of the others; NEVER where there is none.
     pub(crate) fn least_over(&self, a: NodeId, others: NodeSet, dist: &[u32]) -> u32
         requires size { length dist.now ≡ (surviving_network self.now).n }
-        requires others { (e : ℕ) → has others e ≡ true → 0 < (surviving_network self.now).cost a.0 e }
-        ensures { LeastOver (surviving_network self.now) a.0 others dist.now result }
+        requires others { (e : ℕ) → has others e ≡ true → 0 < (surviving_network self.now).cost a e }
+        ensures { LeastOver (surviving_network self.now) a others dist.now result }
     {
         let mut least = NEVER;
         let mut rest = others;
         while let Some(e) = rest.take_first() {
-            least = by_link(self.cost(a, e), dist[e.0 as usize], least);
+            least = by_link(self.cost(a, e), dist[e.index()], least);
         }
         least
     }
@@ -73,7 +73,7 @@ fn nearest(nodes: NodeSet, dist: &[u32]) -> Option<NodeId>
     let mut least = NEVER;
     let mut rest = nodes;
     while let Some(u) = rest.take_first() {
-        let there = dist[u.0 as usize];
+        let there = dist[u.index()];
         if there < least {
             best = Some(u);
             least = there;

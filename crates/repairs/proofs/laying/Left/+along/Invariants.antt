@@ -3,4 +3,4 @@ use Rattle.repairs.specs.Link.{left_network}
 use Rattle.repairs.proofs.laying.Left.+along.Given as goal
 
 abbrev pub decreases-along : goal.decreases-along
-decreases-along l = hops (left_network l.self.now.link) l.self.now.d.0 l.w.0
+decreases-along l = hops (left_network l.self.now.link) l.self.now.d l.w

@@ -8,9 +8,9 @@ use Rattle.repairs.proofs.laying.Protected.entry.Goals as goal
 pub returns-in-Some : goal.returns-in-Some
 returns-in-Some c =
     let l = c.args.self.now in
-    laid_found (link_network l) (left_network l) (matrix_lawful l.routes.now.costs) l.s.0 l.f.0 c.args.d.0 refl (sym c.if-not-sends.ensures) (via c.in-Some.repair.p.0 c.in-Some.repair.q.0) c.in-Some.ensures
+    laid_found (link_network l) (left_network l) (matrix_lawful l.routes.now.costs) l.s l.f c.args.d refl (sym c.if-not-sends.ensures) (via c.in-Some.repair.p c.in-Some.repair.q) c.in-Some.ensures
 
 pub returns-in-None : goal.returns-in-None
 returns-in-None c =
     let l = c.args.self.now in
-    laid_found (link_network l) (left_network l) (matrix_lawful l.routes.now.costs) l.s.0 l.f.0 c.args.d.0 refl (sym c.if-not-sends.ensures) None c.in-None.ensures
+    laid_found (link_network l) (left_network l) (matrix_lawful l.routes.now.costs) l.s l.f c.args.d refl (sym c.if-not-sends.ensures) None c.in-None.ensures

@@ -9,7 +9,7 @@ pub returns : goal.returns
 returns c =
     let l = c.args.self.now in
     let r = l.routes.now in
-    let w = ((matrix_lawful r.costs).within l.s.0 l.f.0 c.requires.0).1 in
-    let start : c.row_of.result.start ≡ l.f.0 * 64 = search rules in
-    let end : c.row_of.result.end ≡ l.f.0 * 64 + r.costs.nodes = search rules in
-    rw start (link_laid (link_network l) (matrix_lawful r.costs) l.s.0 l.f.0 _ c.args.table.now c.fill_row.new.row (omega (arith, r.costs.few)) r.costs.few.1 c.requires.1 (c.fill_row.auto.row ∙ simp (length-take, length-drop) (omega arith)) (omega arith) c.fill_row.ensures)
+    let w = ((matrix_lawful r.costs).within l.s l.f c.requires.0).1 in
+    let start : c.row_of.result.start ≡ l.f * 64 = search rules in
+    let end : c.row_of.result.end ≡ l.f * 64 + r.costs.nodes = search rules in
+    rw start (link_laid (link_network l) (matrix_lawful r.costs) l.s l.f _ c.args.table.now c.fill_row.new.row (omega (arith, r.costs.few)) r.costs.few.1 c.requires.1 (c.fill_row.auto.row ∙ simp (length-take, length-drop) (omega arith)) (omega arith) c.fill_row.ensures)

@@ -6,4 +6,4 @@ use Rattle.repairs.proofs.laying.Protected.fill_row.Goals as goal
 pub loop-d-preserved : goal.loop-d-preserved
 loop-d-preserved c =
     let l = c.args.self.now in
-    row_more (link_network l) l.s.0 l.f.0 c.loop-d.d c.loop-d.row c.entry.result (omega arith) c.loop-d.invariant c.entry.ensures
+    row_more (link_network l) l.s l.f c.loop-d.d c.loop-d.row c.entry.result (omega arith) c.loop-d.invariant c.entry.ensures

@@ -3,4 +3,4 @@ use Rattle.repairs.specs.Table.{RowLaid}
 use Rattle.repairs.proofs.laying.Protected.fill_row.Given as goal
 
 abbrev pub invariant-loop-d : goal.invariant-loop-d
-invariant-loop-d l = RowLaid (link_network l.self) l.self.s.0 l.self.f.0 l.d l.row
+invariant-loop-d l = RowLaid (link_network l.self) l.self.s l.self.f l.d l.row

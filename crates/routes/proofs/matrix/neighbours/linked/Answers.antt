@@ -4,11 +4,11 @@ use Rattle.routes.proofs.matrix.neighbours.linked.Goals.{then-costs-cell-gt0, el
 use Rattle.routes.proofs.matrix.neighbours.linked.Goals as goal
 
 pub loop-b-init : goal.loop-b-init
-loop-b-init c = below_none (λ b. get_or c.args.costs.now (c.args.a.0 * 64 + b) 0) c.empty-set.result c.empty-set.ensures
+loop-b-init c = below_none (λ b. get_or c.args.costs.now (c.args.a * 64 + b) 0) c.empty-set.result c.empty-set.ensures
 
 pub loop-b-preserved : goal.loop-b-preserved
 loop-b-preserved c =
-    let f : ℕ → ℕ = λ b. get_or c.args.costs.now (c.args.a.0 * 64 + b) 0 in
+    let f : ℕ → ℕ = λ b. get_or c.args.costs.now (c.args.a * 64 + b) 0 in
     let k = c.loop-b.b in
     let at_cell = ap (λ i. get_or c.args.costs.now i 0) c.cell.ensures in
     elim c.if-costs-cell-gt0.branch [
@@ -17,4 +17,4 @@ loop-b-preserved c =
     ]
 
 pub returns : goal.returns
-returns c = subst (λ k. Below k (λ b. get_or c.args.costs.now (c.args.a.0 * 64 + b) 0) c.loop-b.set) (omega arith) c.loop-b.invariant
+returns c = subst (λ k. Below k (λ b. get_or c.args.costs.now (c.args.a * 64 + b) 0) c.loop-b.set) (omega arith) c.loop-b.invariant

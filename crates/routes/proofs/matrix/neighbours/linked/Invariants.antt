@@ -3,4 +3,4 @@ use Rattle.routes.proofs.Neighbours.{Below}
 use Rattle.routes.proofs.matrix.neighbours.linked.Given as goal
 
 abbrev pub invariant-loop-b : goal.invariant-loop-b
-invariant-loop-b l = Below l.b (λ b. get_or l.costs (l.a.0 * 64 + b) 0) l.set
+invariant-loop-b l = Below l.b (λ b. get_or l.costs (l.a * 64 + b) 0) l.set

@@ -1,5 +1,5 @@
 use Rattle.std.proofs.Common.{◌≡◌, ℕ, ◌<◌, ltb, length}
-use Rattle.links.specs.NodeSets.{has}
+use Rattle.types.specs.NodeSets.{has}
 use Rattle.routes.specs.Costs.{cost_at}
 use Rattle.routes.specs.Neighbours.{set_at}
 use Rattle.routes.proofs.matrix.neighbours.neighbours_by.Given as goal

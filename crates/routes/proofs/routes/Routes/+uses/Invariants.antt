@@ -3,4 +3,4 @@ use Rattle.routes.specs.Routes.{routes_network}
 use Rattle.routes.proofs.routes.Routes.+uses.Given as goal
 
 abbrev pub decreases-uses : goal.decreases-uses
-decreases-uses l = hops (routes_network l.self.now) l.d.0 l.a.0
+decreases-uses l = hops (routes_network l.self.now) l.d l.a

@@ -9,4 +9,4 @@ returns-in_default-clause-bound c =
     let r = c.args.self.now in
     let p = c.in_ok-place.ensures in
     let e = ap (λ i. get_or r.distances i 0) p.2 in
-    omega (arith, e, (read_some (routes_network r) (matrix_lawful r.costs) (matrix_limited r.costs) c.args.d.0 c.args.a.0 _ (λ x. omega (arith, e, x, c.in_default)) (r.near c.args.d.0 c.args.a.0 (p.0, p.1))).1)
+    omega (arith, e, (read_some (routes_network r) (matrix_lawful r.costs) (matrix_limited r.costs) c.args.d c.args.a _ (λ x. omega (arith, e, x, c.in_default)) (r.near c.args.d c.args.a (p.0, p.1))).1)

@@ -1,11 +1,10 @@
-use Rattle.links.specs.Link.{ends}
 use Rattle.routes.specs.Routes.{routes_network}
 use Rattle.routes.proofs.HopsWithout.{Renewed}
 use Rattle.routes.proofs.Sets.{size_of}
 use Rattle.routes.proofs.routes.Routes.fill_without.Given as goal
 
 abbrev pub invariant-loop-a : goal.invariant-loop-a
-invariant-loop-a l = Renewed (routes_network l.self) (ends l.fn.link) l.fn.d.0 l.initial.rest l.rest l.fn.hops l.hops
+invariant-loop-a l = Renewed (routes_network l.self) l.fn.link l.fn.d l.initial.rest l.rest l.initial.hops l.hops
 
 abbrev pub decreases-loop-a : goal.decreases-loop-a
 decreases-loop-a l = size_of l.rest

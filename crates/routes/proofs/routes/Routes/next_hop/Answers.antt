@@ -7,5 +7,5 @@ use Rattle.routes.proofs.routes.Routes.next_hop.Goals as goal
 pub returns-in_err-place : goal.returns-in_err-place
 returns-in_err-place c =
     let r = c.args.self.now in
-    rw c.from_residual.ensures (hop_outside (routes_network r) (matrix_lawful r.costs) c.args.d.0 c.args.a.0
+    rw c.from_residual.ensures (hop_outside (routes_network r) (matrix_lawful r.costs) c.args.d c.args.a
     (λ h. elim c.in_err-place.ensures [ inl x ↦ omega (arith, h.0) | inr x ↦ omega (arith, h.1) ]))

@@ -1,7 +1,6 @@
-use Rattle.links.specs.Link.{ends}
 use Rattle.routes.specs.Routes.{routes_network}
 use Rattle.routes.specs.Touched.{Sorted}
 use Rattle.routes.proofs.routes.Routes.senders.Given as goal
 
 abbrev pub invariant-loop-a : goal.invariant-loop-a
-invariant-loop-a l = Sorted (routes_network l.self) (ends l.link) l.d.0 l.a l.senders
+invariant-loop-a l = Sorted (routes_network l.self) l.link l.d l.a l.senders

@@ -1,13 +1,12 @@
 use Rattle.std.proofs.Common.{not}
-use Rattle.links.specs.Link.{ends}
-use Rattle.links.specs.NodeSets.{has}
+use Rattle.types.specs.NodeSets.{has}
 use Rattle.routes.specs.Routes.{routes_network}
 use Rattle.theory.proofs.Distances.{count}
 use Rattle.routes.proofs.TouchedNodes.{Found}
 use Rattle.routes.proofs.routes.Routes.touched.Given as goal
 
 abbrev pub invariant-loop-a : goal.invariant-loop-a
-invariant-loop-a l = Found (routes_network l.self) (ends l.fn.link) l.fn.d.0 l.touched l.rest
+invariant-loop-a l = Found (routes_network l.self) l.fn.link l.fn.d l.touched l.rest
 
 -- each step one node more is done
 abbrev pub decreases-loop-a : goal.decreases-loop-a

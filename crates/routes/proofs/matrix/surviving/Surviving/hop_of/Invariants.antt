@@ -1,5 +1,5 @@
 use Rattle.std.proofs.Common.{◌≡◌, ℕ, None, true, false, ltb}
-use Rattle.links.specs.NodeSets.{has}
+use Rattle.types.specs.NodeSets.{has}
 use Rattle.routes.specs.NextHops.{Near}
 use Rattle.routes.specs.Surviving.{surviving_network}
 use Rattle.routes.proofs.Sets.{size_of}
@@ -9,8 +9,8 @@ use Rattle.routes.proofs.matrix.surviving.Surviving.hop_of.Given as goal
 abbrev pub invariant-nearest : goal.invariant-nearest
 invariant-nearest l =
     let z = surviving_network l.self in
-    (l.found ≡ None) × ((y : ℕ) → has l.rest y ≡ true → ltb 0 (z.cost l.a.0 y) ≡ true) ×
-    ((y : ℕ) → ltb 0 (z.cost l.a.0 y) ≡ true → has l.rest y ≡ false → Near (z.cost l.a.0 y) l.dist l.here y → ⊥)
+    (l.found ≡ None) × ((y : ℕ) → has l.rest y ≡ true → ltb 0 (z.cost l.a y) ≡ true) ×
+    ((y : ℕ) → ltb 0 (z.cost l.a y) ≡ true → has l.rest y ≡ false → Near (z.cost l.a y) l.dist l.here y → ⊥)
 
 abbrev pub decreases-nearest : goal.decreases-nearest
 decreases-nearest l = size_of l.rest

@@ -4,7 +4,7 @@ use Rattle.routes.proofs.Sets.{size_of}
 use Rattle.routes.proofs.matrix.surviving.Surviving.least_over.Given as goal
 
 abbrev pub invariant-loop-e : goal.invariant-loop-e
-invariant-loop-e l = LeastBut (surviving_network l.self) l.a.0 l.fn.others l.rest l.dist l.least
+invariant-loop-e l = LeastBut (surviving_network l.self) l.a l.fn.others l.rest l.dist l.least
 
 abbrev pub decreases-loop-e : goal.decreases-loop-e
 decreases-loop-e l = size_of l.rest

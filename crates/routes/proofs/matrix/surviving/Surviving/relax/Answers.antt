@@ -1,5 +1,4 @@
-use Rattle.std.proofs.Common.{ap, get_or, ◌∙◌}
-use Rattle.routes.specs.Dijkstra.{relaxed}
+use Rattle.std.proofs.Common.{get_or}
 use Rattle.routes.specs.Surviving.{surviving_network}
 use Rattle.routes.proofs.LeftNetwork.{surviving_lawful}
 use Rattle.routes.proofs.Relaxing.{relaxed_more}
@@ -9,15 +8,15 @@ use Rattle.routes.proofs.matrix.surviving.Surviving.relax.Goals as goal
 pub loop-e-smaller : goal.loop-e-smaller
 loop-e-smaller c =
     let t = c.in-Some.ensures in
-    size_falls c.loop-e.rest c.take_first.new.self c.in-Some.e.0 t.1 t.0.within t.0.in_set
+    size_falls c.loop-e.rest c.take_first.new.self c.in-Some.e t.1 t.0.within t.0.in_set
 
 pub loop-e-preserved : goal.loop-e-preserved
 loop-e-preserved c =
     let s = c.args.self.now in
     let z = surviving_network s in
     let t = c.in-Some.ensures in
-    let e = c.in-Some.e.0 in
-    let here = get_or c.args.dist.now c.args.u.0 0 in
+    let e = c.in-Some.e in
+    let here = get_or c.args.dist.now c.index.result 0 in
     let link = c.requires.others e (c.loop-e.invariant.some e t.0.in_set) in
-    relaxed_more z c.args.u.0 here c.args.others c.loop-e.rest c.take_first.new.self c.args.dist.now c.loop-e.dist e c.by_link.result c.requires.within.1 ((surviving_lawful s).within c.args.u.0 e link).1 t.0.in_set t.1 c.loop-e.invariant
-    (c.by_link.ensures ∙ ap (λ k. relaxed k here (get_or c.loop-e.dist e 0)) c.cost.ensures)
+    rw c.index-in-Some.ensures (relaxed_more z c.args.u here c.args.others c.loop-e.rest c.take_first.new.self c.args.dist.now c.loop-e.dist e c.by_link.result c.requires.within.1 ((surviving_lawful s).within c.args.u e link).1 t.0.in_set t.1 c.loop-e.invariant
+    cc)

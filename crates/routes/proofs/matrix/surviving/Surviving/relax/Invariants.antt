@@ -4,7 +4,7 @@ use Rattle.routes.proofs.Sets.{size_of}
 use Rattle.routes.proofs.matrix.surviving.Surviving.relax.Given as goal
 
 abbrev pub invariant-loop-e : goal.invariant-loop-e
-invariant-loop-e l = RelaxedBut (surviving_network l.self) l.u.0 l.here l.fn.others l.rest l.initial.dist l.dist
+invariant-loop-e l = RelaxedBut (surviving_network l.self) l.u l.here l.fn.others l.rest l.initial.dist l.dist
 
 abbrev pub decreases-loop-e : goal.decreases-loop-e
 decreases-loop-e l = size_of l.rest

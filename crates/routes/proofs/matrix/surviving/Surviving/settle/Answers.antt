@@ -7,5 +7,5 @@ use Rattle.routes.proofs.matrix.surviving.Surviving.settle.Goals as goal
 pub returns : goal.returns
 returns c =
     let s = c.args.self.now in
-    c.settle_rest.ensures c.args.d.0 (stands_none (surviving_network s) (surviving_lawful s) (surviving_limited s) c.args.d.0 c.below.result c.fill.new.self (λ v. c.below.ensures v ∙ ap (λ n. ltb v n && ltb v 64) c.nodes.ensures) c.requires.0 (omega arith)
-    (λ k h. c.fill.ensures.clones k 0 (omega arith) refl))
+    c.settle_rest.ensures c.args.d (rw c.index.ensures (stands_none (surviving_network s) (surviving_lawful s) (surviving_limited s) c.args.d c.below.result c.fill.new.self (λ v. c.below.ensures v ∙ ap (λ n. ltb v n && ltb v 64) c.nodes.ensures) c.requires.0 (omega arith)
+    (λ k h. c.fill.ensures.clones k 0 (omega arith) refl)))

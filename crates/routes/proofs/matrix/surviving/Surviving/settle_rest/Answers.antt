@@ -1,5 +1,5 @@
 use Rattle.std.proofs.Common.{◌∙◌, ap, ◌&&◌, arith}
-use Rattle.links.specs.NodeSets.{has}
+use Rattle.types.specs.NodeSets.{has}
 use Rattle.routes.specs.Surviving.{surviving_network}
 use Rattle.routes.proofs.LeftNetwork.{surviving_lawful, surviving_limited}
 use Rattle.routes.proofs.Settled.{stands_more, stands_all}
@@ -9,7 +9,7 @@ use Rattle.routes.proofs.matrix.surviving.Surviving.settle_rest.Goals as goal
 pub loop-u-smaller : goal.loop-u-smaller
 loop-u-smaller c =
     let n = c.in-Some.ensures in
-    size_falls c.loop-u.unsettled c.remove.new.self c.in-Some.u.0 c.remove.ensures (omega (arith, c.loop-u.invariant.0 c.in-Some.u.0 n.in_set, (surviving_limited c.args.self.now).few)) n.in_set
+    size_falls c.loop-u.unsettled c.remove.new.self c.in-Some.u c.remove.ensures (omega (arith, c.loop-u.invariant.0 c.in-Some.u n.in_set, (surviving_limited c.args.self.now).few)) n.in_set
 
 pub loop-u-preserved : goal.loop-u-preserved
 loop-u-preserved c =
@@ -17,7 +17,7 @@ loop-u-preserved c =
     let z = surviving_network s in
     let i = c.loop-u.invariant in
     let n = c.in-Some.ensures in (
-      λ v h. i.0 v (left_in c.loop-u.unsettled c.remove.new.self c.in-Some.u.0 c.remove.ensures v h),
+      λ v h. i.0 v (left_in c.loop-u.unsettled c.remove.new.self c.in-Some.u c.remove.ensures v h),
       c.relax.ensures.size ∙ i.1,
       λ d h. stands_more z (surviving_lawful s) (surviving_limited s) d c.loop-u.unsettled c.loop-u.dist (i.2 d h) c.in-Some.u n c.remove.new.self c.remove.ensures c.and.result c.relax.new.dist (λ e. c.and.ensures e ∙ ap (λ b. b && has c.remove.new.self e) (c.neighbours.ensures e)) c.relax.ensures,
     )

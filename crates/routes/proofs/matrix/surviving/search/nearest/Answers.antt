@@ -4,9 +4,9 @@ use Rattle.routes.proofs.matrix.surviving.search.nearest.Goals as goal
 pub loop-u-smaller-then-there-least : goal.loop-u-smaller-then-there-least
 loop-u-smaller-then-there-least c =
     let t = c.in-Some.ensures in
-    size_falls c.loop-u.rest c.take_first.new.self c.in-Some.u.0 t.1 t.0.within t.0.in_set
+    size_falls c.loop-u.rest c.take_first.new.self c.in-Some.u t.1 t.0.within t.0.in_set
 
 pub loop-u-smaller : goal.loop-u-smaller
 loop-u-smaller c =
     let t = c.in-Some.ensures in
-    size_falls c.loop-u.rest c.take_first.new.self c.in-Some.u.0 t.1 t.0.within t.0.in_set
+    size_falls c.loop-u.rest c.take_first.new.self c.in-Some.u t.1 t.0.within t.0.in_set

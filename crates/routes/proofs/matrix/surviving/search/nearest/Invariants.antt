@@ -1,6 +1,5 @@
 use Rattle.std.proofs.Common.{◌≡◌, ℕ, ◌<◌, ◌≤◌, true, ◌⊎◌, get_or, MatchOption}
-use Rattle.links.specs.NodeSets.{has}
-use Rattle.links.specs.declared.node.NodeId.{NodeId}
+use Rattle.types.specs.NodeSets.{has}
 use Rattle.routes.proofs.Sets.{size_of}
 use Rattle.routes.proofs.matrix.surviving.search.nearest.Given as goal
 
@@ -8,7 +7,7 @@ use Rattle.routes.proofs.matrix.surviving.search.nearest.Given as goal
 abbrev pub invariant-loop-u : goal.invariant-loop-u
 invariant-loop-u l =
     ((v : ℕ) → has l.rest v ≡ true → has l.fn.nodes v ≡ true) × ((v : ℕ) → has l.fn.nodes v ≡ true → (has l.rest v ≡ true) ⊎ (l.least ≤ get_or l.dist v 0)) ×
-    MatchOption l.best (l.least ≡ 4294967295) (λ (u : NodeId). (has l.fn.nodes u.0 ≡ true) × (l.least ≡ get_or l.dist u.0 0) × (l.least < 4294967295))
+    MatchOption l.best (l.least ≡ 4294967295) (λ (u : ℕ). (has l.fn.nodes u ≡ true) × (l.least ≡ get_or l.dist u 0) × (l.least < 4294967295))
 
 abbrev pub decreases-loop-u : goal.decreases-loop-u
 decreases-loop-u l = size_of l.rest

@@ -1,0 +1,12 @@
+pub mod AllRounds
+pub mod Awaited
+pub mod Heard
+pub mod InRange
+pub mod Kept
+pub mod KnownDown
+pub mod Learnt
+pub mod Marked
+pub mod OneRound
+pub mod OwnTables
+pub mod Sayings
+pub mod Sets

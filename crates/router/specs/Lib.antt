@@ -1,0 +1,10 @@
+pub mod Hearing
+pub mod Model
+pub mod Outcomes
+pub mod Replies
+pub mod RouterError
+pub mod Rounds
+pub mod Switching
+pub mod Tables
+pub mod Transition
+pub mod Uses

@@ -1,0 +1,13 @@
+use Rattle.std.proofs.Common.{◌≡◌, ◌+◌, ◌-◌, ◌≤◌, length, Option, None}
+use Rattle.types.specs.Packet.{packet_of}
+use Rattle.types.specs.declared.segment.Segment.{Segment}
+use Rattle.wire.specs.Cursor.{read_as}
+use Rattle.wire.specs.Packets.{segments_in}
+use Rattle.wire.proofs.PacketBytes.{with_more}
+use Rattle.wire.proofs.packet.parse_segments.Given as goal
+
+abbrev pub invariant-loop : goal.invariant-loop
+invariant-loop l =
+    (last : Option Segment) ×
+    (read_as (with_more (packet_of l.longer)) (segments_in l.nodes (l.count - l.counter) last l.rest.size l.rest.bytes.now) ≡ read_as (with_more (packet_of l.fn.packet)) (segments_in l.nodes l.count None l.cursor.size l.cursor.bytes.now)) ×
+    (length (packet_of l.longer).segments + (l.count - l.counter) ≤ 5)

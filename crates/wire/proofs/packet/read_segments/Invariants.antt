@@ -1,9 +1,0 @@
-use Rattle.std.proofs.Common.{◌≡◌, ◌+◌, ◌-◌, ◌≤◌, length}
-use Rattle.packets.specs.Packets.{packet_of}
-use Rattle.wire.specs.Pieces.{read_as}
-use Rattle.wire.specs.Packets.{segments_in}
-use Rattle.wire.proofs.Reading.{behind}
-use Rattle.wire.proofs.packet.read_segments.Given as goal
-
-abbrev pub invariant-loop : goal.invariant-loop
-invariant-loop l = (read_as (behind (packet_of l.longer)) (segments_in (l.count - l.counter) l.nodes l.rest.size l.rest.bytes.now) ≡ read_as (behind (packet_of l.fn.packet)) (segments_in l.count l.nodes l.unread.size l.unread.bytes.now)) × (length (packet_of l.longer).segments + (l.count - l.counter) ≤ 5)

@@ -1,9 +1,0 @@
-use Rattle.packets.specs.Packets.{packet_of}
-use Rattle.wire.proofs.PacketBytes.{packet_back}
-use Rattle.wire.proofs.packet.write_packet.Goals as goal
-
-pub returns-then-is_err-clause-back : goal.returns-then-is_err-clause-back
-returns-then-is_err-clause-back c = λ o n h. packet_back o n (packet_of c.args.packet.now) h
-
-pub returns-else-is_err-clause-back : goal.returns-else-is_err-clause-back
-returns-else-is_err-clause-back c = λ o n h. packet_back o n (packet_of c.args.packet.now) h
