@@ -1,13 +1,13 @@
 -- A set from which nodes are taken, the lowest first, ends.
 use lib.Count.{ones_step}
-use Rattle.std.proofs.Common.{◌≡◌, ℕ, zero, suc, ◌+◌, ◌/◌, ◌%◌, ◌<◌, ◌≤◌, Bool, true, false, not, ◌&&◌, eqb, Some, None, Option, count_ones, sym, refl, ap, ◌∙◌, arith, rules}
+use Rattle.std.proofs.Common.{◌≡◌, ℕ, zero, suc, ◌/◌, ◌<◌, ◌≤◌, Bool, true, not, ◌&&◌, eqb, Some, None, Option, count_ones, sym, refl, arith, rules}
 use Rattle.std.specs.Bool.{⊤}
 use Rattle.std.specs.Int.{bit_at}
 use Rattle.std.specs.Iterator.{at_most, MakesProgress}
 use Rattle.std.proofs.lemmas.Nat.{ones-le}
 use Rattle.std.proofs.lemmas.Nat.Bits.{bit_at-lt, bit_at_lowest, bit_at-suc}
 use Rattle.std.proofs.lemmas.Bool.{eq-eqb, eqb-true, and_parts}
-use Rattle.types.specs.NodeSets.{has, Lowest, TakenFirst}
+use Rattle.types.specs.NodeSets.{TakenFirst}
 use Rattle.types.specs.declared.node_set.NodeSet.{NodeSet}
 
 abbrev Within : ℕ → ℕ → Type 0
@@ -43,6 +43,6 @@ pub taken_fewer : (old new : NodeSet) (r : Option ℕ) → TakenFirst old new r 
 taken_fewer old new None h = record { on = search rules; keeps = search rules; rests = search rules }
 taken_fewer old new (Some u) h =
     let less : count_ones new.0 < count_ones old.0 =
-        fewer u new.0 old.0 (λ v. kept (bit_at new.0 v) (bit_at old.0 v) (not (eqb v u)) (bit_at-lt new.0 v) (h.1 v))
-        (gone (bit_at new.0 u) (bit_at old.0 u) (eqb u u) (bit_at-lt new.0 u) h.0.in_set (h.1 u) (eq-eqb u u refl))
+    fewer u new.0 old.0 (λ v. kept (bit_at new.0 v) (bit_at old.0 v) (not (eqb v u)) (bit_at-lt new.0 v) (h.1 v))
+    (gone (bit_at new.0 u) (bit_at old.0 u) (eqb u u) (bit_at-lt new.0 u) h.0.in_set (h.1 u) (eq-eqb u u refl))
     in record { on = λ _. (tt, tt, less); keeps = search rules; rests = search rules }

@@ -102,3 +102,21 @@ impl DropReason {
         }
     }
 }
+
+#[cfg(test)]
+mod tests {
+    use super::*;
+    use std::test::Fail;
+
+    #[test]
+    fn texts(rt: HostRuntime) -> Result<(), Fail> {
+        let heap = rt.alloc();
+        let read = format!(in heap; "{}", ReadFault::NodeCount)?;
+        assert_eq!(rt; read.as_str(), "the number of nodes is not from 1 to 64");
+        let refusal = format!(in heap; "{}", Refusal::NotPending)?;
+        assert_eq!(rt; refusal.as_str(), "nobody waits for this Switched message");
+        let dropped = format!(in heap; "{}", DropReason::NoHopsLeft)?;
+        assert_eq!(rt; dropped.as_str(), "no hops left");
+        Ok(())
+    }
+}
