@@ -29,9 +29,12 @@ record Later (p l : Link) : Type 0 where
   order : l.a < l.b
   after : Before p l
 
-later : (n : ℕ) (p : Link) (ls : List Link) → rising_from n p ls ≡ true → (i : ℕ) → i < length ls → Later p (get_or ls i start)
+later : (n : ℕ) (p : Link) (ls : List Link) → rising_from n p ls ≡ true → (i : ℕ) → i < length ls →
+    Later p (get_or ls i start)
 later n p [] t i h = absurd (omega arith)
-later n p (l ∷ ls) t zero h = let f = (rising_parts n p l ls t).0 in record { order = f.order; after = before p l f.after }
+later n p (l ∷ ls) t zero h =
+    let f = (rising_parts n p l ls t).0 in
+    record { order = f.order; after = before p l f.after }
 later n p (l ∷ ls) t (suc i) h =
     let s = rising_parts n p l ls t in
     let k = later n l ls s.1 i (omega arith) in

@@ -90,8 +90,8 @@ impl Packet {
         Some(Packet { segments, ..self })
     }
 
-    /// Returns it with a repair's two segments in front of all others: to `p`, and over the link from `p` to `q`; `None` where
-    /// that makes more than five.
+    /// Returns it with a repair's two segments in front of all others: to `p`, and over the link from `p` to `q`;
+    /// `None` where that makes more than five.
     pub fn with_repair(self, p: NodeId, q: NodeId) -> Option<Packet>
         ensures { option_map packet_of result ≡ repaired (packet_of self) p q }
     {
