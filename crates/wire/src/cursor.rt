@@ -36,10 +36,8 @@ impl<'a> Cursor<'a> {
 
     /// A fault of the next piece, at the byte where it begins.
     pub(crate) fn refuse(self, fault: ReadFault) -> ReadError
-        ensures {
-            let at = self.entry.size - length self.entry.bytes.now in
-            result ≡ record { fault = fault; at = at }
-        }
+        ensures { let at = self.entry.size - length self.entry.bytes.now in
+            result ≡ record { fault = fault; at = at } }
     {
         let at = self.size.saturating_sub(self.bytes.len());
         ReadError { fault, at }
@@ -57,10 +55,8 @@ impl<'a> Cursor<'a> {
 
     /// The end: nothing is left over.
     pub(crate) fn end(self) -> Result<(), ReadError>
-        ensures {
-            let bytes = self.entry.bytes.now in
-            result ≡ ended (self.entry.size - length bytes) bytes tt
-        }
+        ensures { let bytes = self.entry.bytes.now in
+            result ≡ ended (self.entry.size - length bytes) bytes tt }
     {
         if !self.bytes.is_empty() {
             return Err(self.refuse(ReadFault::TrailingBytes));
