@@ -34,13 +34,14 @@ fault_follows : (n : ℕ) (last : Option Link) (l : Link) → l.cost ≤ 65535 �
     follows n (last_link last) l ≡ true
 fault_follows n last l h e = search rules
 
-follows_fault : (n : ℕ) (last : Option Link) (l : Link) → follows n (last_link last) l ≡ true → link_fault n last l ≡ None
+follows_fault : (n : ℕ) (last : Option Link) (l : Link) → follows n (last_link last) l ≡ true →
+    link_fault n last l ≡ None
 follows_fault n last l t = let f = follows_parts n (last_link last) l t in search rules
 
 -- links without a fault rise, and the other way round
 
-all_rising : (n : ℕ) (last : Option Link) (ls : List Link) → Bytes (flat_map link_bytes ls) → Passed link_at (link_fault n) last ls →
-    rising_from n (last_link last) ls ≡ true
+all_rising : (n : ℕ) (last : Option Link) (ls : List Link) → Bytes (flat_map link_bytes ls) →
+    Passed link_at (link_fault n) last ls → rising_from n (last_link last) ls ≡ true
 unfolding rising_from
 all_rising n last [] b h = refl
 all_rising n last (l ∷ ls) b h =
@@ -141,8 +142,10 @@ pub list_is : (bs rest : List ℕ) (count size : ℕ) (ls : List Link) → 4 ≤
     list_in bs ≡ Ok (record { nodes = get_or bs 1 0; links = ls })
 list_is bs rest count size ls l f k m q e =
     let n = get_or bs 1 0 in
-    let more = λ (y : Header) (left : List ℕ). read_as (with_header y) (links_in y.nodes y.count None (length bs) left) in
-    let u = ap (λ i. links_in n i None size rest) k in
-    let v = ap (λ i. links_in n (get_or bs 2 0 * 256 + get_or bs 3 0) None i rest) m in
-    let w = ap (λ left. links_in n (get_or bs 2 0 * 256 + get_or bs 3 0) None (length bs) left) q in
+    let i = get_or bs 2 0 * 256 + get_or bs 3 0 in
+    let z = length bs in
+    let more = λ (y : Header) (left : List ℕ). read_as (with_header y) (links_in y.nodes y.count None z left) in
+    let u = ap (λ x. links_in n x None size rest) k in
+    let v = ap (λ x. links_in n i None x rest) m in
+    let w = ap (λ x. links_in n i None z x) q in
     header_read fault_of 4 bs (header_of bs) more l f ∙ ap (read_as (with_header (header_of bs))) (sym (u ∙ v ∙ w) ∙ e)

@@ -38,11 +38,13 @@ lawful_fault : (n : ℕ) (s : Segment) → SegmentLawful n s → segment_fault n
 lawful_fault n (Node x) h = search rules
 lawful_fault n (Link from to) h = search rules
 
-all_lawful : (n : ℕ) (last : Option Segment) (ss : List Segment) → Passed segment_at (faults n) last ss → SegmentsLawful n ss
+all_lawful : (n : ℕ) (last : Option Segment) (ss : List Segment) → Passed segment_at (faults n) last ss →
+    SegmentsLawful n ss
 all_lawful n last [] h = tt
 all_lawful n last (s ∷ ss) h = (fault_lawful n s h.0, all_lawful n (Some s) ss h.1)
 
-all_passed : (n : ℕ) (last : Option Segment) (ss : List Segment) → SegmentsLawful n ss → Passed segment_at (faults n) last ss
+all_passed : (n : ℕ) (last : Option Segment) (ss : List Segment) → SegmentsLawful n ss →
+    Passed segment_at (faults n) last ss
 all_passed n last [] h = tt
 all_passed n last (s ∷ ss) h = (lawful_fault n s h.0, all_passed n (Some s) ss h.1)
 
@@ -86,14 +88,15 @@ packet_back o n p h =
     let f = header_fine o n 2 p.destination (length p.segments) refl h.within h.few in
     let passed = all_passed n None p.segments h.segments in
     header_read (fault_of o n) 5 bs (header_of bs) more (omega arith) f ∙
-    (ap (read_as (with_header (header_of bs))) (reads_back segment_at (faults n) segment_bytes segment_back None m p.segments passed) ∙
-    ap (λ l. Ok (record { destination = p.destination; hop_limit = l; segments = p.segments })) (two_bytes p.hop_limit))
+    (ap (read_as (with_header (header_of bs)))
+    (reads_back segment_at (faults n) segment_bytes segment_back None m p.segments passed) ∙
+    ap (λ l. Ok (record p { hop_limit = l })) (two_bytes p.hop_limit))
 
 abbrev Segments : ℕ → List ℕ → List Segment → Type 0
 Segments n bs ss = WasRead segment_at (faults n) segment_bytes (get_or bs 4 0) None (drop 5 bs) ss
 
-packet_written : (n : ℕ) (bs : List ℕ) (ss : List Segment) → Bytes bs → 5 ≤ length bs → get_or bs 0 0 ≡ 2 → Segments n bs ss →
-    packet_bytes (with_header (header_of bs) ss) ≡ bs
+packet_written : (n : ℕ) (bs : List ℕ) (ss : List Segment) → Bytes bs → 5 ≤ length bs → get_or bs 0 0 ≡ 2 →
+    Segments n bs ss → packet_bytes (with_header (header_of bs) ss) ≡ bs
 packet_written n bs ss h l k s =
     let high = div-mul-add (get_or bs 2 0) 256 (get_or bs 3 0) (h 3) in
     let low = mod-mul-add (get_or bs 2 0) 256 (get_or bs 3 0) (h 3) in
@@ -108,7 +111,8 @@ packet_read o n bs p h e =
     let w = header_ok (fault_of o n) 5 bs (header_of bs) more p e in
     let t = header_parts o n (get_or bs 0 0) (get_or bs 1 0) (get_or bs 4 0) w.1 in
     let r = read_as_ok (with_header (header_of bs)) (segments_in n (get_or bs 4 0) None m (drop 5 bs)) p w.2 in
-    let s = was_read segment_at (faults n) segment_bytes (λ xs q _ i. segment_spelled xs q i) (get_or bs 4 0) None m (drop 5 bs) r.0 (bytes_from 5 bs h) r.1 in
+    let b = bytes_from 5 bs h in
+    let s = was_read segment_at (faults n) segment_bytes (λ xs q _ i. segment_spelled xs q i) (get_or bs 4 0) None m (drop 5 bs) r.0 b r.1 in
     let few : length r.0 ≤ most o = omega (arith, s.count, t.2) in
     let q = with_header (header_of bs) r.0 in
     let lawful : PacketLawful o n q = record { within = t.1; few = few; segments = all_lawful n None r.0 s.passed } in

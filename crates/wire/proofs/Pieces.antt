@@ -83,7 +83,8 @@ whole_ok : {A : Type 0} (k : ℕ) (bs : List ℕ) (x : A) (p : A × List ℕ) �
 whole_ok k bs x p e = search rules
 
 -- a header h of k bytes, and more behind it
-module _ {A B : Type 0} (fault : A → Option ReadFault) (k : ℕ) (bs : List ℕ) (h : A) (more : A → List ℕ → Result B ReadError) where
+module _ {A B : Type 0} (fault : A → Option ReadFault) (k : ℕ) (bs : List ℕ) (h : A)
+    (more : A → List ℕ → Result B ReadError) where
   abbrev Answer : Result B ReadError
   Answer = piece 0 (judged fault (whole k bs h)) more
 
@@ -107,14 +108,17 @@ module _ {A : Type 0} (at : List ℕ → Front A) (fault : Option A → A → Op
   no_more zero last m bs z = refl
   no_more (suc k) last m bs z = absurd (omega arith)
 
+  -- x and the i pieces behind it
+  abbrev before : (i m : ℕ) → A → List ℕ → Result (List A) ReadError
+  before i m x rest = read_as (λ xs. x ∷ xs) (pieces_in at fault i (Some x) m rest)
+
   one_more : (k i : ℕ) (last : Option A) (m : ℕ) (bs : List ℕ) → i + 1 ≡ k →
-      pieces_in at fault k last m bs ≡
-      piece (m - length bs) (judged (fault last) (at bs)) (λ x rest. read_as (λ xs. x ∷ xs) (pieces_in at fault i (Some x) m rest))
+      pieces_in at fault k last m bs ≡ piece (m - length bs) (judged (fault last) (at bs)) (before i m)
   unfolding pieces_in
   one_more zero i last m bs z = absurd (omega arith)
   one_more (suc k) i last m bs z =
       let y : k ≡ i = omega arith in
-      ap (λ j. piece (m - length bs) (judged (fault last) (at bs)) (λ x rest. read_as (λ xs. x ∷ xs) (pieces_in at fault j (Some x) m rest))) y
+      ap (λ j. piece (m - length bs) (judged (fault last) (at bs)) (before j m)) y
 
   -- the answer w is what g makes of the pieces that are left
   module _ {B : Type 0} (g : List A → B) (k : ℕ) (last : Option A) (m : ℕ) (bs : List ℕ) (w : Result B ReadError)
@@ -128,11 +132,11 @@ module _ {A : Type 0} (at : List ℕ → Front A) (fault : Option A → A → Op
     refused : (e : ReadError) → 0 < k → placed (m - length bs) (judged (fault last) (at bs)) ≡ Err e → Err e ≡ w
     refused e l h =
         let z : k - 1 + 1 ≡ k = omega arith in
-        let more = λ (x : A) (rest : List ℕ). read_as (λ xs. x ∷ xs) (pieces_in at fault (k - 1) (Some x) m rest) in
-        sym (ap (read_as g) (one_more k (k - 1) last m bs z ∙ piece_refused (m - length bs) (judged (fault last) (at bs)) more e h)) ∙ is
+        let r = piece_refused (m - length bs) (judged (fault last) (at bs)) (before (k - 1) m) e h in
+        sym (ap (read_as g) (one_more k (k - 1) last m bs z ∙ r)) ∙ is
 
-    pub nothing_there : (f : ReadFault) (e : ReadError) → 0 < k → at bs ≡ Err f → e ≡ record { fault = f; at = m - length bs } →
-        Err e ≡ w
+    pub nothing_there : (f : ReadFault) (e : ReadError) → 0 < k → at bs ≡ Err f →
+        e ≡ record { fault = f; at = m - length bs } → Err e ≡ w
     nothing_there f e l h q = refused e l (nothing_placed (fault last) (m - length bs) (at bs) f e h q)
 
     pub refused_here : (p : A × List ℕ) (e : ReadError) → 0 < k → at bs ≡ Ok p →
@@ -144,8 +148,8 @@ module _ {A : Type 0} (at : List ℕ → Front A) (fault : Option A → A → Op
         Ok tt ≡ placed (m - length bs) (unless (fault last p.0) (tt {0})) → ((xs : List A) → f xs ≡ g (p.0 ∷ xs)) →
         read_as f (pieces_in at fault i (Some p.0) m p.1) ≡ w
     read_one f i p z h q e =
-        let more = λ (x : A) (rest : List ℕ). read_as (λ xs. x ∷ xs) (pieces_in at fault i (Some x) m rest) in
-        let t = piece_taken (m - length bs) (judged (fault last) (at bs)) more p (fine_placed (fault last) (m - length bs) (at bs) p h q) in
+        let placed_so = fine_placed (fault last) (m - length bs) (at bs) p h q in
+        let t = piece_taken (m - length bs) (judged (fault last) (at bs)) (before i m) p placed_so in
         same (pieces_in at fault i (Some p.0) m p.1) ∙ (sym (ap (read_as g) (one_more k i last m bs z ∙ t)) ∙ is)
       where
         same : (r : Result (List A) ReadError) → read_as f r ≡ read_as g (read_as (λ xs. p.0 ∷ xs) r)
@@ -165,15 +169,14 @@ module _ {A : Type 0} (at : List ℕ → Front A) (fault : Option A → A → Op
 
     -- what is read was written so, if each piece was
     pub was_read : ((bs : List ℕ) (p : A × List ℕ) → Bytes bs → at bs ≡ Ok p → bytes p.0 ++ p.1 ≡ bs) →
-        (k : ℕ) (last : Option A) (m : ℕ) (bs : List ℕ) (xs : List A) → Bytes bs → pieces_in at fault k last m bs ≡ Ok xs →
-        WasRead k last bs xs
+        (k : ℕ) (last : Option A) (m : ℕ) (bs : List ℕ) (xs : List A) → Bytes bs →
+        pieces_in at fault k last m bs ≡ Ok xs → WasRead k last bs xs
     unfolding pieces_in
     was_read spells zero last m bs xs b e =
         let f = ended_ok (m - length bs) bs [] xs e in
         subst (WasRead 0 last bs) f.1 (record { count = refl; passed = tt; spelled = sym f.0 })
     was_read spells (suc k) last m bs xs b e =
-        let more = λ (x : A) (rest : List ℕ). read_as (λ ys. x ∷ ys) (pieces_in at fault k (Some x) m rest) in
-        let p = piece_ok (m - length bs) (judged (fault last) (at bs)) more xs e in
+        let p = piece_ok (m - length bs) (judged (fault last) (at bs)) (before k m) xs e in
         let j = judged_ok (fault last) 0 (at bs) p.0 p.1 in
         let s = spells bs p.0 b j.0 in
         let r = read_as_ok (λ ys. p.0.0 ∷ ys) (pieces_in at fault k (Some p.0.0) m p.0.1) xs p.2 in
@@ -195,5 +198,5 @@ module _ {A : Type 0} (at : List ℕ → Front A) (fault : Option A → A → Op
         let bs = flat_map bytes xs in
         let i = m - length (flat_map bytes (x ∷ xs)) in
         let j = ap (judged (fault last)) (reads x bs) ∙ ap (λ o. unless o (x, bs)) h.0 in
-        ap (λ r. piece i r (λ y rest. read_as (λ ys. y ∷ ys) (pieces_in at fault (length xs) (Some y) m rest))) j ∙
+        ap (λ r. piece i r (before (length xs) m)) j ∙
         ap (read_as (λ ys. x ∷ ys)) (reads_back reads (Some x) m xs h.1)

@@ -24,7 +24,9 @@ new-requires-clause-ordered c =
     let f = c.in_ok-piece.ensures ∙ ap (placed _) c.check_header.ensures in
     let m = c.after.ensures.size ∙ c.new-cursor.ensures.size in
     let q = c.after.ensures.rest ∙ take_rest bs 4 in
-    (is_read bs _ _ _ _ _ (λ j. (c.type_inv.bytes j).fits) c.in-len4-up.len_at_least f c.from_be_bytes-count.ensures m q c.in_ok-links.ensures).ordered
+    let bytes = λ (j : ℕ). (c.type_inv.bytes j).fits in
+    let l = c.in-len4-up.len_at_least in
+    (is_read bs _ _ _ _ _ bytes l f c.from_be_bytes-count.ensures m q c.in_ok-links.ensures).ordered
 
 pub returns-clause-spelled : goal.returns-clause-spelled
 returns-clause-spelled c =
@@ -32,6 +34,8 @@ returns-clause-spelled c =
     let f = c.in_ok-piece.ensures ∙ ap (placed _) c.check_header.ensures in
     let m = c.after.ensures.size ∙ c.new-cursor.ensures.size in
     let q = c.after.ensures.rest ∙ take_rest bs 4 in
-    let r = is_read bs _ _ _ _ _ (λ j. (c.type_inv.bytes j).fits) c.in-len4-up.len_at_least f c.from_be_bytes-count.ensures m q c.in_ok-links.ensures in
+    let bytes = λ (j : ℕ). (c.type_inv.bytes j).fits in
+    let l = c.in-len4-up.len_at_least in
+    let r = is_read bs _ _ _ _ _ bytes l f c.from_be_bytes-count.ensures m q c.in_ok-links.ensures in
     let n = ap (λ (z : Network). z.n) c.new.ensures.network in
     ap₂ (λ k ls. list_bytes (record { nodes = k; links = ls })) n c.new.ensures.links ∙ r.spelled

@@ -1,6 +1,7 @@
-use Rattle.std.proofs.Common.{◌+◌, ◌-◌, ◌++◌, ◌∷◌, [], vec_items, Ok, sym, ap, ◌∙◌, append_assoc, append-nil, arith}
+use Rattle.std.proofs.Common.{◌+◌, ◌-◌, List, ◌++◌, ◌∷◌, [], vec_items, Ok, sym, ap, ◌∙◌, append_assoc, append-nil, arith}
 use Rattle.std.proofs.lemmas.Result.{err_from_is_err_and}
 use Rattle.types.specs.declared.fault.ReadFault.TheVariants.{Truncated}
+use Rattle.types.specs.declared.link.Link.{Link}
 use Rattle.wire.specs.Cursor.{placed, unless}
 use Rattle.wire.specs.Lists.{link_at, link_fault}
 use Rattle.wire.proofs.Pieces.{all_read, left_over, nothing_there, refused_here, read_one}
@@ -9,7 +10,8 @@ use Rattle.wire.proofs.list.parse_rest.Goals as goal
 
 pub returns-in_default : goal.returns-in_default
 returns-in_default c =
-    sym (nothing_there link_at (link_fault c.args.nodes) _ _ _ _ _ _ c.loop.invariant Truncated _ (omega arith) c.in_default.ensures c.refuse.ensures)
+    let f = c.in_default.ensures in
+    sym (nothing_there link_at (link_fault c.args.nodes) _ _ _ _ _ _ c.loop.invariant Truncated _ (omega arith) f c.refuse.ensures)
 
 pub returns-in_err-piece : goal.returns-in_err-piece
 returns-in_err-piece c =
@@ -17,7 +19,8 @@ returns-in_err-piece c =
     let last = c.last.ensures.value ∙ ap last_of c.deref.ensures.value in
     let f = c.check_link.ensures ∙ ap (λ o. unless (link_fault c.args.nodes o c.in-Some.link) (tt {0})) last in
     let g = c.in_err-piece.ensures ∙ ap (placed _) f in
-    rw (p.1, p.2) (sym (refused_here link_at (link_fault c.args.nodes) _ _ _ _ _ _ c.loop.invariant _ _ (omega arith) c.in-Some.ensures g))
+    rw (p.1, p.2)
+    (sym (refused_here link_at (link_fault c.args.nodes) _ _ _ _ _ _ c.loop.invariant _ _ (omega arith) c.in-Some.ensures g))
 
 pub loop-preserved : goal.loop-preserved
 loop-preserved c =
@@ -28,13 +31,17 @@ loop-preserved c =
     let f = c.check_link.ensures ∙ ap (λ o. unless (link_fault c.args.nodes o l) (tt {0})) last in
     let g = c.in_ok-piece.ensures ∙ ap (placed _) f in
     let a = c.after-rest.ensures in
-    let r = read_one link_at (link_fault c.args.nodes) _ _ _ _ _ _ c.loop.invariant (λ xs. (ls ++ (l ∷ [])) ++ xs) left _ (omega arith) c.in-Some.ensures g (append_assoc ls (l ∷ [])) in
+    let i = c.loop.invariant in
+    let more = λ (xs : List Link). (ls ++ (l ∷ [])) ++ xs in
+    let s = append_assoc ls (l ∷ []) in
+    let r = read_one link_at (link_fault c.args.nodes) _ _ _ _ _ _ i more left _ (omega arith) c.in-Some.ensures g s in
     rw (c.in_ok-push.ensures.items, last_of-push ls l, a.size, a.rest) r
 
 pub returns-in_err-end : goal.returns-in_err-end
 returns-in_err-end c =
     let p = err_from_is_err_and c.from_residual-in_err-end.result c.from_residual-in_err-end.ensures.1 in
-    rw (p.1, p.2) (sym (left_over link_at (link_fault c.args.nodes) _ _ _ _ _ _ c.loop.invariant _ (omega arith) c.in_err-end.ensures))
+    rw (p.1, p.2)
+    (sym (left_over link_at (link_fault c.args.nodes) _ _ _ _ _ _ c.loop.invariant _ (omega arith) c.in_err-end.ensures))
 
 pub returns : goal.returns
 returns c =

@@ -19,7 +19,8 @@ pub returns-in_err-piece : goal.returns-in_err-piece
 returns-in_err-piece c =
     let p = err_from_is_err_and c.from_residual.result c.from_residual.ensures.1 in
     let f = c.in_err-piece.ensures ∙ ap (placed _) c.check_segment.ensures in
-    rw (p.1, p.2) (refused_here segment_at (faults c.args.nodes) _ _ _ _ _ _ c.loop.invariant.1 _ _ (omega arith) c.in-Some.ensures f)
+    rw (p.1, p.2)
+    (refused_here segment_at (faults c.args.nodes) _ _ _ _ _ _ c.loop.invariant.1 _ _ (omega arith) c.in-Some.ensures f)
 
 pub loop-preserved : goal.loop-preserved
 loop-preserved c =
@@ -33,13 +34,16 @@ loop-preserved c =
     let f = c.in_ok-piece.ensures ∙ ap (placed _) c.check_segment.ensures in
     let a = c.after-rest.ensures in
     let rest = ap₂ (λ m bs. read_as (with_more q) (segments_in c.args.nodes left (Some s) m bs)) a.size a.rest in
-    let r = read_one segment_at (faults c.args.nodes) _ _ _ _ _ _ c.loop.invariant.1 (with_more q) left _ (omega arith) c.in-Some.ensures f (more_behind p q s e) in
+    let more = more_behind p q s e in
+    let i = c.loop.invariant.1 in
+    let r = read_one segment_at (faults c.args.nodes) _ _ _ _ _ _ i (with_more q) left _ (omega arith) c.in-Some.ensures f more in
     (Some s, rest ∙ r, omega (arith, c.loop.invariant.2, few))
 
 pub returns-in_err-end : goal.returns-in_err-end
 returns-in_err-end c =
     let p = err_from_is_err_and c.from_residual-in_err-end.result c.from_residual-in_err-end.ensures.1 in
-    rw (p.1, p.2) (left_over segment_at (faults c.args.nodes) _ _ _ _ _ _ c.loop.invariant.1 _ (omega arith) c.in_err-end.ensures)
+    rw (p.1, p.2)
+    (left_over segment_at (faults c.args.nodes) _ _ _ _ _ _ c.loop.invariant.1 _ (omega arith) c.in_err-end.ensures)
 
 pub returns : goal.returns
 returns c =

@@ -10,7 +10,8 @@ use Rattle.wire.proofs.packet.parse_segments.Given as goal
 abbrev pub invariant-loop : goal.invariant-loop
 invariant-loop l =
     let left = l.count - l.counter in
-    let all = read_as (with_more (packet_of l.fn.packet)) (segments_in l.nodes l.count None l.cursor.size l.cursor.bytes.now) in
+    let all = segments_in l.nodes l.count None l.cursor.size l.cursor.bytes.now in
+    let answer = read_as (with_more (packet_of l.fn.packet)) all in
     (last : Option Segment) ×
-    (read_as (with_more (packet_of l.longer)) (segments_in l.nodes left last l.rest.size l.rest.bytes.now) ≡ all) ×
+    (read_as (with_more (packet_of l.longer)) (segments_in l.nodes left last l.rest.size l.rest.bytes.now) ≡ answer) ×
     (length (packet_of l.longer).segments + left ≤ 5)
