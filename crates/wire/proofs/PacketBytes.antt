@@ -112,7 +112,8 @@ packet_read o n bs p h e =
     let t = header_parts o n (get_or bs 0 0) (get_or bs 1 0) (get_or bs 4 0) w.1 in
     let r = read_as_ok (with_header (header_of bs)) (segments_in n (get_or bs 4 0) None m (drop 5 bs)) p w.2 in
     let b = bytes_from 5 bs h in
-    let s = was_read segment_at (faults n) segment_bytes (λ xs q _ i. segment_spelled xs q i) (get_or bs 4 0) None m (drop 5 bs) r.0 b r.1 in
+    let spells = λ (xs : List ℕ) (q : Segment × List ℕ) (_ : Bytes xs) (i : segment_at xs ≡ Ok q). segment_spelled xs q i in
+    let s = was_read segment_at (faults n) segment_bytes spells (get_or bs 4 0) None m (drop 5 bs) r.0 b r.1 in
     let few : length r.0 ≤ most o = omega (arith, s.count, t.2) in
     let q = with_header (header_of bs) r.0 in
     let lawful : PacketLawful o n q = record { within = t.1; few = few; segments = all_lawful n None r.0 s.passed } in

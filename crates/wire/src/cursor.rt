@@ -12,7 +12,7 @@ pub(crate) struct Cursor<'a> {
 }
 
 impl<'a> Cursor<'a> {
-    /// All of them.
+    /// At the first of some bytes.
     pub(crate) fn new(bytes: &'a [u8]) -> Cursor<'a>
         ensures all { result.bytes.now ≡ bytes.now }
         ensures size { result.size ≡ length bytes.now }
@@ -23,7 +23,7 @@ impl<'a> Cursor<'a> {
         }
     }
 
-    /// What is left behind the next piece.
+    /// At what is left behind the next piece.
     pub(crate) fn after(self, rest: &'a [u8]) -> Cursor<'a>
         ensures rest { result.bytes.now ≡ rest.now }
         ensures size { result.size ≡ self.entry.size }

@@ -99,7 +99,7 @@ pub fn emit_packet(packet: &Packet, out: &mut Vec<u8>) -> Result<(), AllocError>
     emitted
 }
 
-/// Where memory is wanting, some bytes may stand there.
+/// Puts the header and the segments behind what is written already. On an `Err` some of the bytes may stand there.
 fn emit_parts(packet: &Packet, out: &mut Vec<u8>) -> Result<(), AllocError>
     ensures ok { let bytes = packet_bytes (packet_of packet.now) in
         OnOk result (out.new.items ≡ out.old.items ++ bytes) }

@@ -50,7 +50,7 @@ pub(crate) fn check_segment(nodes: u8, segment: &Segment) -> Result<(), ReadFaul
     }
 }
 
-/// Puts segments behind what is written already. Where memory is wanting, some of them may stand there.
+/// Puts segments behind what is written already. On an `Err` some of them may stand there.
 pub(crate) fn emit_segments(segments: &[Segment], out: &mut Vec<u8>) -> Result<(), AllocError>
     ensures ok { let bytes = flat_map segment_bytes segments.now in
         OnOk result (out.new.items ≡ out.old.items ++ bytes) }

@@ -10,13 +10,13 @@ use Rattle.wire.proofs.Bytes.{Bytes}
 use Rattle.wire.proofs.PacketBytes.{packet_read}
 use Rattle.wire.proofs.packet.parse_packet.Goals as goal
 
-lawful : (r : Result Packet ReadError) (o : Origin) (n : ℕ) (bs : List ℕ) → Bytes bs → read_as packet_of r ≡ packet_in o n bs →
-    IfOk r (λ p. PacketLawful o n (packet_of p))
+lawful : (r : Result Packet ReadError) (o : Origin) (n : ℕ) (bs : List ℕ) → Bytes bs →
+    read_as packet_of r ≡ packet_in o n bs → IfOk r (λ p. PacketLawful o n (packet_of p))
 lawful (Ok p) o n bs h e = (packet_read o n bs (packet_of p) h (sym e)).0
 lawful (Err d) o n bs h e = tt
 
-spelled : (r : Result Packet ReadError) (o : Origin) (n : ℕ) (bs : List ℕ) → Bytes bs → read_as packet_of r ≡ packet_in o n bs →
-    IfOk r (λ p. packet_bytes (packet_of p) ≡ bs)
+spelled : (r : Result Packet ReadError) (o : Origin) (n : ℕ) (bs : List ℕ) → Bytes bs →
+    read_as packet_of r ≡ packet_in o n bs → IfOk r (λ p. packet_bytes (packet_of p) ≡ bs)
 spelled (Ok p) o n bs h e = (packet_read o n bs (packet_of p) h (sym e)).1
 spelled (Err d) o n bs h e = tt
 

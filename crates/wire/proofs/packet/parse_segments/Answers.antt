@@ -12,18 +12,21 @@ loop-init c = let z : c.args.count - 0 ≡ c.args.count = omega arith in (None, 
 
 pub returns-in_default : goal.returns-in_default
 returns-in_default c =
+    let n = c.args.nodes in
     let f = c.no_segment.ensures c.in_default.ensures in
-    nothing_there segment_at (faults c.args.nodes) _ _ _ _ _ _ c.loop.invariant.1 _ _ (omega arith) f c.refuse.ensures
+    nothing_there segment_at (faults n) _ _ _ _ _ _ c.loop.invariant.1 _ _ (omega arith) f c.refuse.ensures
 
 pub returns-in_err-piece : goal.returns-in_err-piece
 returns-in_err-piece c =
+    let n = c.args.nodes in
     let p = err_from_is_err_and c.from_residual.result c.from_residual.ensures.1 in
     let f = c.in_err-piece.ensures ∙ ap (placed _) c.check_segment.ensures in
     rw (p.1, p.2)
-    (refused_here segment_at (faults c.args.nodes) _ _ _ _ _ _ c.loop.invariant.1 _ _ (omega arith) c.in-Some.ensures f)
+    (refused_here segment_at (faults n) _ _ _ _ _ _ c.loop.invariant.1 _ _ (omega arith) c.in-Some.ensures f)
 
 pub loop-preserved : goal.loop-preserved
 loop-preserved c =
+    let n = c.args.nodes in
     let s = c.in-Some.segment in
     let left = c.args.count - (c.loop.counter + 1) in
     let p = packet_of c.loop.longer in
@@ -33,20 +36,22 @@ loop-preserved c =
     let few = ap (λ v. length v.segments) e ∙ length-append p.segments _ in
     let f = c.in_ok-piece.ensures ∙ ap (placed _) c.check_segment.ensures in
     let a = c.after-rest.ensures in
-    let rest = ap₂ (λ m bs. read_as (with_more q) (segments_in c.args.nodes left (Some s) m bs)) a.size a.rest in
+    let rest = ap₂ (λ m bs. read_as (with_more q) (segments_in n left (Some s) m bs)) a.size a.rest in
     let more = more_behind p q s e in
     let i = c.loop.invariant.1 in
-    let r = read_one segment_at (faults c.args.nodes) _ _ _ _ _ _ i (with_more q) left _ (omega arith) c.in-Some.ensures f more in
+    let r = read_one segment_at (faults n) _ _ _ _ _ _ i (with_more q) left _ (omega arith) c.in-Some.ensures f more in
     (Some s, rest ∙ r, omega (arith, c.loop.invariant.2, few))
 
 pub returns-in_err-end : goal.returns-in_err-end
 returns-in_err-end c =
+    let n = c.args.nodes in
     let p = err_from_is_err_and c.from_residual-in_err-end.result c.from_residual-in_err-end.ensures.1 in
     rw (p.1, p.2)
-    (left_over segment_at (faults c.args.nodes) _ _ _ _ _ _ c.loop.invariant.1 _ (omega arith) c.in_err-end.ensures)
+    (left_over segment_at (faults n) _ _ _ _ _ _ c.loop.invariant.1 _ (omega arith) c.in_err-end.ensures)
 
 pub returns : goal.returns
 returns c =
+    let n = c.args.nodes in
     let p = packet_of c.loop.longer in
     ap (λ ss. Ok (with_segments p ss)) (sym (append-nil p.segments)) ∙
-    all_read segment_at (faults c.args.nodes) _ _ _ _ _ _ c.loop.invariant.1 (omega arith) c.in_ok-end.ensures
+    all_read segment_at (faults n) _ _ _ _ _ _ c.loop.invariant.1 (omega arith) c.in_ok-end.ensures
