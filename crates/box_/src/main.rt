@@ -1,153 +1,90 @@
-// One router: frames on standard input, and what it hands on and says on standard output.
+//! One router: frames on standard input, and what it hands on and says on standard output.
 #![tactic(auto)]
 
-use console::{Ending, ended, number};
-use links::fault::Fault;
-use links::node::NodeId;
-use receiving::answering::answer;
-use receiving::framing::{Frame, Frames};
-use receiving::listing::start;
-use std::alloc::Global;
-use std::io::{Read, Write};
+ghost use Rattle.std.specs.Prelude.{◌<◌, IfOk, codes};
+ghost use Rattle.cli.specs.CommandLine.{Requires};
+
+use clap::{Arg, ArgAction, Command};
+use cli::{Ending, Program, bad_value, finish, number, parse, read_some, words};
+use session::Session;
+use std::alloc::{AllocError, Global};
 use std::process::ExitCode;
-use std::{env, mem};
-use switchover::router::Router;
+use types::NodeId;
 
-const USAGE: &str = "usage: box NODE, a number from 0 to 255, or box --help";
+mod log;
+mod session;
 
-const HELP: &str = "usage: box NODE
+const BOX: Program = Program {
+    name: "box",
+    usage: "box NODE",
+    about: "The router at NODE: takes frames, and writes what it hands on and says",
+    details: DETAILS,
+};
 
-Is the router at NODE. Reads frames from standard input until its end: the node that a frame comes from (1 byte; NODE
-itself for what its own sender sends and for what it notices itself), the length of the message (2, the high byte first),
-and the message. The first frame is the list of links; a later list replaces it, unless the router is switching over.
-Writes what the router hands on and says to standard output: for each message the neighbour (1 byte), and the message. A
-packet that is delivered here comes after NODE itself.
-A frame that is refused, or a packet that is dropped, is a line 'frame K: fault N: ..' on standard error, and the next
-frame is read; a Switched message that nobody waits for (fault 6) is passed over in silence.
-";
+const DETAILS: &str = "Frames are read from standard input until its end. In each:
+  1 byte   the node that it comes from; NODE itself for what its own sender sends and for what it
+           notices itself
+  2 bytes  the length of the message, the high byte first
+  then     the message
+The first frame is the list of links; a later list replaces it, unless the router is switching over.
+
+What the router hands on and says is written to standard output: for each message the neighbour
+(1 byte), and the message. A packet that is delivered here comes after NODE itself.
+
+A frame that is refused, or a packet that is dropped, is a line 'frame K: fault N: ..' on standard
+error, and the next frame is read; a Switched message that nobody waits for (fault 6) is passed over
+in silence.";
+
+// How many bytes of the input are taken at a time.
+const ROOM: usize = 65536;
+
+fn command<'a>(alloc: Global) -> Result<Command<'a>, AllocError>
+    ensures { IfOk result (λ c. Requires c (codes "NODE")) }
+{
+    let node = Arg::new(alloc, "NODE")
+        .required(true)
+        .action(ArgAction::Set)
+        .help("A number from 0 to 63");
+    BOX.command(alloc).arg(node)
+}
 
 // Where the router is to be, by the command line.
-fn asked(rt: &HostRuntime) -> Result<NodeId, Ending> {
-    let mut node = None;
-    for word in env::args(rt)?.skip(1) {
-        if word.as_str() == "--help" {
-            return Err(Ending::Help(HELP));
-        }
-        if node.is_some() {
-            return Err(Ending::Text(USAGE));
-        }
-        let number = number(word.as_str()).ok_or(Ending::Text(USAGE))?;
-        node = Some(NodeId(number));
-    }
-    node.ok_or(Ending::Text(USAGE))
-}
-
-// What the program holds between two frames: the router, once it has its list of links, how many frames have come, the
-// bytes of the next one that are there already, and what is to be written.
-#[derive(Drop)]
-struct Station {
-    me: NodeId,
-    router: Option<Router>,
-    frames: usize,
-    cut: Vec<u8>,
-    out: Vec<u8>,
-    faults: String,
-}
-
-impl Station {
-    fn new(heap: Global, me: NodeId) -> Station {
-        Station {
-            me,
-            router: None,
-            frames: 0,
-            cut: Vec::new(heap),
-            out: Vec::new(heap),
-            faults: String::new(heap),
-        }
-    }
-
-    // All frames that are whole now; what is left of the bytes is kept.
-    fn take_all(&mut self, heap: Global, bytes: &[u8]) -> Result<(), Ending> {
-        self.cut.extend_from_slice(bytes)?;
-        let input = mem::replace(&mut self.cut, Vec::new(heap));
-        let mut frames = Frames {
-            rest: input.as_slice(),
-        };
-        for frame in &mut frames {
-            self.frames = self.frames.saturating_add(1);
-            if let Err(fault) = self.take(heap, frame) {
-                self.note(fault)?;
-            }
-        }
-        Ok(self.cut.extend_from_slice(frames.rest)?)
-    }
-
-    // A frame that is cut at the end of the input is refused like any other.
-    fn end(&mut self) -> Result<(), Ending> {
-        if self.cut.is_empty() {
-            return Ok(());
-        }
-        self.frames = self.frames.saturating_add(1);
-        self.note(Fault::Truncated)
-    }
-
-    // What is to be written is written.
-    fn hand_out(&mut self, rt: &HostRuntime) -> Result<(), Ending> {
-        rt.stdout().write_all(self.out.as_slice())?;
-        rt.stderr().write_all(self.faults.as_bytes())?;
-        self.out.clear();
-        self.faults.clear();
-        Ok(())
-    }
-
-    fn take(&mut self, heap: Global, frame: Frame) -> Result<(), Fault> {
-        match &mut self.router {
-            Some(router) => answer(heap, router, frame, &mut self.out),
-            None => self.begin(heap, frame),
-        }
-    }
-
-    // The first list makes the router. It stands apart: in `take`, every frame would clear the 45,830 bytes of a router on
-    // the stack, and a million packets would take 1.4 s and not 0.13 s.
-    fn begin(&mut self, heap: Global, frame: Frame) -> Result<(), Fault> {
-        self.router = Some(start(heap, self.me, frame)?);
-        Ok(())
-    }
-
-    // A Switched message that nobody waits for is passed over in silence. Want of memory ends the program.
-    fn note(&mut self, fault: Fault) -> Result<(), Ending> {
-        if fault == Fault::NotPending {
-            return Ok(());
-        }
-        let k = self.frames;
-        let n = fault.number().ok_or(fault)?;
-        Ok(write!(self.faults, "frame {k}: fault {n}: {fault}\n")?)
+fn node_of(alloc: Global, words: &[String]) -> Result<NodeId, Ending>
+    ensures { IfOk result (λ node. node < 64) }
+{
+    let matches = parse(alloc, command(alloc)?, words)?;
+    let word = matches.get_str("NODE").unwrap();
+    // By hand, since clap's parser of numbers takes a sign.
+    match number(word) {
+        Some(node) if node < 64 => Ok(NodeId(node)),
+        _ => Err(bad_value(alloc, "NODE", word, "not a number from 0 to 63")),
     }
 }
 
 fn run(rt: &HostRuntime) -> Result<(), Ending> {
-    let me = asked(rt)?;
-    let mut station = Station::new(rt.alloc(), me);
-    let end = serve(rt, &mut station);
-    station.hand_out(rt)?;
+    let words = words(rt)?;
+    let me = node_of(rt.alloc(), words.as_slice())?;
+    let mut session = Session::new(rt.alloc(), me);
+    let end = serve(rt, &mut session);
+    session.hand_out(rt)?;
     end
 }
 
 // Frames are taken as they come, and what comes of them is written before more is read. The count of the loop only shows
 // that it ends: its bound is never reached.
-fn serve(rt: &HostRuntime, station: &mut Station) -> Result<(), Ending> {
+fn serve(rt: &HostRuntime, session: &mut Session) -> Result<(), Ending> {
+    let mut room = vec![in rt.alloc(); 0; ROOM]?;
     for _ in 0..usize::MAX {
-        let mut room = [0u8; 65536];
-        let count = rt.stdin().read(&mut room)?;
+        let count = read_some(rt, room.as_mut_slice())?;
         if count == 0 {
             break;
         }
-        station.take_all(rt.alloc(), &room[..count])?;
-        station.hand_out(rt)?;
+        session.take(rt.alloc(), &room.as_slice()[..count])?;
+        session.hand_out(rt)?;
     }
-    station.end()
+    session.end()
 }
 
 fn main(rt: HostRuntime) -> ExitCode {
-    ended(&rt, run(&rt))
+    finish(&rt, BOX.name, run(&rt))
 }

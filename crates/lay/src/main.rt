@@ -1,29 +1,32 @@
-// Reads a list of links and prints the distances, the next-hop tables and the repairs of the network.
+//! Reads a list of links and prints the distances, the next-hop tables and the repairs of the network.
 #![tactic(auto)]
 
-use console::{Ending, ended, input};
-use links::topology::Topology;
-use report::plan;
-use std::io::Write;
+use clap::{Arg, ArgAction, Command};
+use cli::{Ending, Program, finish, parse, read_list, words, write_output};
+use render::{plan, summary};
+use std::alloc::{AllocError, Global};
 use std::process::ExitCode;
-use std::{env, fs};
-use summary::summary;
+use wire::parse_links;
 
-mod summary;
+const LAY: Program = Program {
+    name: "lay",
+    usage: "lay [--summary] [FILE]",
+    about: "Prints the distances, the next-hop tables and the repairs of a network",
+    details: DETAILS,
+};
 
-const USAGE: &str = "usage: lay [--summary] [FILE], or lay --help";
+const DETAILS: &str = "What is printed:
+  places N   the number of nodes
+  distances  a row for each node, a column for each destination; - where there is no path
+  tables     the same with next hops; - at the destination itself and where there is no path
+  detours    a row for each link, a column for each destination: s:p-q where the end s sends over
+             the link and its repair is by p and the link p-q; apart where no path is left; unused
+             where no end sends
 
-const HELP: &str = "usage: lay [--summary] [FILE]
+A refused list is one line 'fault N: ..' on standard error, and status 1.";
 
-Reads a list of links in bytes (from standard input where no FILE is named) and prints
-  places N     the number of nodes
-  distances    a row for each node, a column for each destination; - where there is no path
-  tables       the same with next hops; - at the destination itself and where there is no path
-  detours      a row for each link, a column for each destination: s:p-q where the end s sends over the link
-               and its repair is by p and the link p-q; apart where no path is left; unused where no end sends
---summary prints how many repairs there are, which failures cut whom off, and the longest repair instead.
-A refused list is one line 'fault N: ..' on standard error, and status 1.
-";
+const SUMMARY: &str = "Print how many repairs there are, which failures cut whom off, and the
+longest repair instead";
 
 // What is to be printed of a network.
 #[derive(Clone, Copy)]
@@ -33,48 +36,53 @@ enum Text {
 }
 
 // What is asked for on the command line: a text of the list in a file, if one is named.
-#[derive(Drop)]
-struct Request {
+#[derive(Clone, Copy)]
+struct Request<'a> {
     text: Text,
-    file: Option<String>,
+    file: Option<&'a str>,
 }
 
-fn asked(rt: &HostRuntime) -> Result<Request, Ending> {
-    let mut text = Text::Plan;
-    let mut file = None;
-    for word in env::args(rt)?.skip(1) {
-        match word.as_str() {
-            "--help" => return Err(Ending::Help(HELP)),
-            "--summary" => text = Text::Summary,
-            option if option.starts_with('-') || file.is_some() => {
-                return Err(Ending::Text(USAGE));
-            }
-            _ => file = Some(word),
-        }
-    }
-    Ok(Request { text, file })
+fn command<'a>(alloc: Global) -> Result<Command<'a>, AllocError> {
+    let summary = Arg::new(alloc, "summary")
+        .long("summary")
+        .action(ArgAction::SetTrue)
+        .help(SUMMARY);
+    let file = Arg::new(alloc, "FILE").action(ArgAction::Set).help(
+        "The list of links, in bytes; standard input where none is named",
+    );
+    // As ever, `--summary` twice is as once.
+    LAY.command(alloc)
+        .args_override_self(true)
+        .arg(summary)?
+        .arg(file)
 }
 
-// The bytes of the list. By hand: `console::input` names a file that it can't read, and lay doesn't.
-fn list(rt: &HostRuntime, file: Option<String>) -> Result<Vec<u8>, Ending> {
-    match file {
-        Some(path) => Ok(fs::read(rt, path.as_str())?),
-        None => input(rt, None),
-    }
+fn request_of<'a>(alloc: Global, words: &'a [String]) -> Result<Request<'a>, Ending> {
+    let matches = parse(alloc, command(alloc)?, words)?;
+    let text = if matches.get_flag("summary") {
+        Text::Summary
+    } else {
+        Text::Plan
+    };
+    Ok(Request {
+        text,
+        file: matches.get_str("FILE"),
+    })
 }
 
 // A text is put together whole before anything is printed.
 fn run(rt: &HostRuntime) -> Result<(), Ending> {
-    let Request { text, file } = asked(rt)?;
-    let list = list(rt, file)?;
-    let topology = Topology::read(rt.alloc(), list.as_slice())?;
-    let bytes = match text {
+    let words = words(rt)?;
+    let request = request_of(rt.alloc(), words.as_slice())?;
+    let list = read_list(rt, request.file)?;
+    let topology = parse_links(rt.alloc(), list.as_slice())?;
+    let bytes = match request.text {
         Text::Plan => plan(rt.alloc(), &topology)?,
         Text::Summary => summary(rt.alloc(), &topology)?.into_bytes(),
     };
-    Ok(rt.stdout().write_all(bytes.as_slice())?)
+    write_output(rt, bytes.as_slice())
 }
 
 fn main(rt: HostRuntime) -> ExitCode {
-    ended(&rt, run(&rt))
+    finish(&rt, LAY.name, run(&rt))
 }

@@ -25,7 +25,7 @@ pub enum Command {
 }
 
 /// What a line asks for, in a network with so many nodes. What follows # is a comment.
-pub fn parse(heap: Global, line: &[u8], nodes: u8) -> Result<Command, BadLine> {
+pub fn parse_line(heap: Global, line: &[u8], nodes: u8) -> Result<Command, BadLine> {
     let code = line.split(|byte| *byte == b'#').next().unwrap_or(line);
     let text = from_utf8(code).map_err(|_| BadLine::NotText)?;
     let words: Vec<&str> = text.split_ascii_whitespace().collect(heap)?;
