@@ -1,4 +1,4 @@
--- What comes of a frame at a router, in the protocol's words: its bytes, from a node.
+-- What comes of a frame at a router, in the protocol's words: of bytes that come from a node.
 use Rattle.std.specs.Prelude.{◌≡◌, ℕ, zero, suc, Bool, false, ◌||◌, List, [], ◌∷◌, ◌++◌, Ok, Err, Result, IsOkAnd, if◌then◌else◌, ◌==◌, nat_lt, is_some}
 use Rattle.std.specs.List.{flat_map}
 use Rattle.std.specs.Result.{result_map_both}
@@ -36,25 +36,23 @@ abbrev pub ◌>>=◌ : {A B : Type 0} → Result A FrameError → (A → Result 
 Ok x >>= next = next x
 Err e >>= next = Err e
 
+-- bytes that are refused are refused by their fault
 abbrev pub read : {A : Type 0} → Result A ReadError → Result A FrameError
 read r = result_map_both (λ x. x) (λ e. Read e.fault) r
 
--- a list: the router begins anew, if its node is in it
-abbrev pub router_of : ℕ → Listing → Result Router FrameError
-router_of u x = if nat_lt u x.nodes then Ok (idle (network_of x.nodes x.links) [] u) else Err (Read NodeOutOfRange)
-
+-- the router at the node u by a list of links: the node must be in it
 abbrev pub router_at : ℕ → List ℕ → Result Router FrameError
 router_at u bytes = do
-  x ← read (list_in bytes)
-  router_of u x
+  list ← read (list_in bytes)
+  if nat_lt u list.nodes then Ok (idle (network_of list.nodes list.links) [] u) else Err (Read NodeOutOfRange)
 
--- but not while a change is under way
+-- by a later list the router begins anew, but not while a change is under way
 abbrev pub serve_list : Router → List ℕ → Result Served FrameError
 serve_list s bytes = do
   t ← router_at s.me bytes
   if is_some (known_failure s) then Err (Refused SecondFailure) else Ok (record { router = t; written = [] })
 
--- a packet: its own sender's, or a neighbour's
+-- a packet is its own sender's, or a neighbour's
 abbrev pub origin_of : Router → ℕ → Origin
 origin_of s from = if from == s.me then Sender else Neighbour
 
@@ -93,11 +91,7 @@ unfoldable pub switch_below : ℕ → Served → Served
 switch_below zero x = x
 switch_below (suc k) x = let y = switch_below k x in go_on y (switch y.router k)
 
--- it may switch for no destination
-abbrev pub IsSettled : Router → Type 0
-IsSettled s = (d : ℕ) → may s d ≡ false
-
--- a message: it hears it, and then switches for all destinations that it may
+-- a message is heard; the router then switches for all destinations that it may
 abbrev pub serve_message : Router → ℕ → List ℕ → Result Served FrameError
 serve_message s from bytes = do
   m ← read (message_in s.links.n bytes)
@@ -126,8 +120,12 @@ serve s from bytes =
 abbrev pub start : ℕ → ℕ → List ℕ → Result Router FrameError
 start me from bytes = if from == me then router_at me bytes else Err (Refused NotNeighbour)
 
--- the router and the bytes afterwards, by what comes of a frame; nothing changes where it is refused, and where memory is
--- wanting nothing is written
+-- it may switch for no destination
+abbrev pub IsSettled : Router → Type 0
+IsSettled s = (d : ℕ) → may s d ≡ false
+
+-- the router and the bytes before and after, by what comes of a frame: a refusal changes nothing, and where memory is wanting
+-- nothing is written
 abbrev pub Serves : Result Served FrameError → (old new : Router) (before after : List ℕ) → {A : Type 0} → Result A FrameError → Type 0
 Serves served old new before after (Ok _) = IsOkAnd served (λ x. (new ≡ x.router) × (after ≡ before ++ x.written))
 Serves served old new before after (Err e) = (after ≡ before) × UnlessMemory e ((served ≡ Err e) × (new ≡ old))
