@@ -1,0 +1,2 @@
+pub mod FrameError
+pub mod Frames
