@@ -1,4 +1,0 @@
-pub mod Text
-pub mod Links
-pub mod Detours
-pub mod Values
