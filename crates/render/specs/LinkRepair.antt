@@ -1,5 +1,5 @@
 -- The repair of the end of a link that sends over it to a destination.
-use Rattle.std.specs.Prelude.{ℕ}
+use Rattle.std.specs.Prelude.{ℕ, Bool, true, false}
 use Rattle.theory.specs.Network.{LinkId, Network}
 use Rattle.theory.specs.Repair.{Laid, Unused, Apart, Via, laid}
 use Rattle.repairs.specs.Entries.{meaning}
@@ -21,3 +21,15 @@ of_sender l (Via p q) y = record { end = l.a; laid = Via p q }
 -- for the link l and the destination d
 abbrev pub link_repair : Network → LinkId → ℕ → LinkRepair
 link_repair z l d = of_sender l (laid z l.a l.b d) (laid z l.b l.a d)
+
+-- does an end send over the link?
+abbrev pub is_used : Laid → Bool
+is_used Unused = false
+is_used Apart = true
+is_used (Via p q) = true
+
+-- has it a repair?
+abbrev pub is_repaired : Laid → Bool
+is_repaired Unused = false
+is_repaired Apart = false
+is_repaired (Via p q) = true

@@ -8,12 +8,6 @@ use Rattle.routes.specs.Routes.{routes_network}
 use Rattle.render.specs.Text.{link_row}
 use Rattle.render.proofs.link_repair.push_link_repairs.Goals as goal
 
-pub push_link_row-requires : goal.push_link_row-requires
-push_link_row-requires c =
-    let z = routes_network c.args.routes.now in
-    let item = c.link-item.result in
-    subst (λ (k : LinkId). 0 < z.cost k.a k.b) (sym c.from.ensures) (subst (λ (k : Link). 0 < z.cost k.a k.b) (sym c.link-item.is) (c.requires c.loop-link.link-index item c.loop-link-test.true))
-
 pub loop-link-preserved : goal.loop-link-preserved
 loop-link-preserved c =
     let z = routes_network c.args.routes.now in
