@@ -1,0 +1,6 @@
+pub mod LinkRepair
+pub mod Text
+pub use Rattle.theory.specs.Network
+pub use Rattle.theory.specs.Repair
+pub use Rattle.links.specs.Topology
+pub use Rattle.routes.specs.Routes
