@@ -1,6 +1,6 @@
 -- What a change does to a network: it stays lawful, and who has no broken path keeps its distance and its next hop.
-use Rattle.std.proofs.Common.{◌≡◌, ℕ, ◌<◌, ◌≤◌, Bool, false, not, ◌||◌, ltb, None, Some, sym, refl, ap, ◌∙◌, inl, inr, arith}
-use Rattle.std.proofs.lemmas.Bool.{cases_Bool, cond_both, lt-ltb, le-ltb}
+use Rattle.std.proofs.Common.{◌≡◌, ℕ, ◌<◌, ◌≤◌, Bool, true, false, not, ◌&&◌, ◌||◌, ltb, None, Some, sym, refl, ap, ap₂, ◌∙◌, inl, inr, arith}
+use Rattle.std.proofs.lemmas.Bool.{cases_Bool, cases_lt, cond_both, lt-ltb, le-ltb}
 use Rattle.theory.specs.Network.{joins, without, Network, Lawful, Limited, LinkId}
 use Rattle.theory.specs.Distance.{distance}
 use Rattle.theory.specs.NextHop.{next_hop, uses}
@@ -19,6 +19,27 @@ use Rattle.routes.specs.declared.view.View.{View}
 pub changed_nodes : (c : Change) (z : Network) → (changed c z).n ≡ z.n
 changed_nodes Nothing z = refl
 changed_nodes (LinkFails r) z = refl
+
+joins_gone : (r : LinkId) (z : Network) (a e : ℕ) → 0 < z.cost a e → joins r a e ≡ not (ltb 0 ((without r z).cost a e))
+joins_gone r z a e h = elim (cases_Bool (joins r a e)) [
+  | inl t ↦ t ∙ sym (ap not (le-ltb 0 ((without r z).cost a e) (omega (arith, cost_failed r z a e t))))
+  | inr f ↦ f ∙ sym (ap not (lt-ltb 0 ((without r z).cost a e) (omega (arith, cost_left r z a e f))))
+]
+
+lost_stays : (c : Change) (z : Network) (a b : ℕ) → z.cost a b ≡ 0 → (changed c z).cost a b ≡ 0
+lost_stays Nothing z a b h = h
+lost_stays (LinkFails r) z a b h = cond_both (joins r a b) 0 (z.cost a b) (λ k. k ≡ 0) (λ _. refl) (λ _. h)
+
+-- of the links those are left that are not lost
+pub links_left : (c : Change) (z : Network) (a b : ℕ) (lost : Bool) → (0 < z.cost a b → lost ≡ not (ltb 0 ((changed c z).cost a b))) → (ltb 0 (z.cost a b) && not lost) ≡ ltb 0 ((changed c z).cost a b)
+links_left c z a b lost h = elim (cases_lt 0 (z.cost a b)) [
+  | inl l ↦ ap₂ (λ x y. x && not y) (lt-ltb 0 (z.cost a b) l) (h l) ∙ twice (ltb 0 ((changed c z).cost a b))
+  | inr l ↦ ap (λ x. x && not lost) (le-ltb 0 (z.cost a b) l) ∙ sym (le-ltb 0 ((changed c z).cost a b) (omega (arith, lost_stays c z a b (omega arith))))
+]
+  where
+    twice : (x : Bool) → not (not x) ≡ x
+    twice true = refl
+    twice false = refl
 
 pub changed_lawful : (c : Change) (z : Network) → Lawful z → Lawful (changed c z)
 changed_lawful Nothing z g = g
@@ -51,12 +72,6 @@ breaks (LinkFails r) z d a = uses z r d a
 pub breaks_stop : (c : Change) (z : Network) (d a : ℕ) → next_hop z d a ≡ None → breaks c z d a ≡ false
 breaks_stop Nothing z d a h = refl
 breaks_stop (LinkFails r) z d a h = uses_stop z r d a h
-
-joins_gone : (r : LinkId) (z : Network) (a e : ℕ) → 0 < z.cost a e → joins r a e ≡ not (ltb 0 ((without r z).cost a e))
-joins_gone r z a e h = elim (cases_Bool (joins r a e)) [
-  | inl t ↦ t ∙ sym (ap not (le-ltb 0 ((without r z).cost a e) (omega (arith, cost_failed r z a e t))))
-  | inr f ↦ f ∙ sym (ap not (lt-ltb 0 ((without r z).cost a e) (omega (arith, cost_left r z a e f))))
-]
 
 pub breaks_to : (c : Change) (z : Network) → Lawful z → (d a e : ℕ) → next_hop z d a ≡ Some e → breaks c z d a ≡ (not (ltb 0 ((changed c z).cost a e)) || breaks c z d e)
 breaks_to Nothing z g d a e h = sym (ap (λ b. not b || false) (lt-ltb 0 (z.cost a e) (next_hop_is z d a e h).near.link))

@@ -169,6 +169,7 @@ impl Routes {
 
     /// The network after a change.
     fn after<'a>(&'a self, change: &'a Change) -> View<'a>
+        ensures before { matrix_network result.costs.now ≡ routes_network self.now }
         ensures network { view_network result ≡ changed change.now (routes_network self.now) }
         ensures nodes { (view_network result).n ≡ (routes_network self.now).n }
     {
@@ -256,7 +257,7 @@ impl Routes {
         for a in 0..self.nodes() {
             let a = NodeId(a);
             match self.hop(d, a) {
-                Some(e) if view.has_link(a, e) => senders.to[e.index()].insert(a),
+                Some(e) if view.keeps(a, e) => senders.to[e.index()].insert(a),
                 Some(_) => senders.cut.insert(a),
                 None => {}
             }

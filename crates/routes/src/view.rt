@@ -7,7 +7,7 @@ use crate::matrix::CostMatrix;
 use crate::table::{CELLS, NEVER, row_of};
 use types::{Change, LinkId, NodeId, NodeSet};
 
-/// A network as a change leaves it: the costs stay where they are, and the change is looked up in `neighbours` alone.
+/// A network as a change leaves it: the costs stay where they are. What changes is looked up in `lost` alone.
 #[derive(Clone, Copy)]
 pub(crate) struct View<'a> {
     costs: &'a CostMatrix,
@@ -15,7 +15,7 @@ pub(crate) struct View<'a> {
 }
 
 impl<'a> View<'a> {
-    ghost use Rattle.std.specs.Prelude.{◌≡◌, ℕ, ◌<◌, true, length, nat_lt, slice_index};
+    ghost use Rattle.std.specs.Prelude.{◌≡◌, ℕ, ◌<◌, not, true, length, nat_lt, slice_index};
     ghost use Rattle.types.specs.Change.{changed};
     ghost use Rattle.types.specs.NodeSets.{has};
     ghost use Rattle.links.specs.Links.{IsNodeCount};
@@ -27,6 +27,7 @@ impl<'a> View<'a> {
     ghost use Rattle.routes.specs.View.{view_network};
 
     pub(crate) fn new(costs: &'a CostMatrix, change: &'a Change) -> View<'a>
+        ensures before { matrix_network result.costs.now ≡ matrix_network costs.now }
         ensures network { view_network result ≡ changed change.now (matrix_network costs.now) }
         ensures nodes { (view_network result).n ≡ (matrix_network costs.now).n }
     {
@@ -53,19 +54,26 @@ impl<'a> View<'a> {
         requires { a < (view_network self.now).n }
         ensures { (b : ℕ) → has result b ≡ nat_lt 0 ((view_network self.now).cost a b) }
     {
-        let all = self.costs.neighbours(a);
-        match self.change {
-            Change::Nothing => all,
-            Change::LinkFails(link) => all.minus(other_end(*link, a)),
-        }
+        self.costs.neighbours(a).minus(self.lost(a))
     }
 
-    /// Has a node a link to another?
-    pub(crate) fn has_link(&self, a: NodeId, b: NodeId) -> bool
-        requires { a < (view_network self.now).n }
+    /// Is a link still there after the change?
+    pub(crate) fn keeps(&self, a: NodeId, b: NodeId) -> bool
+        requires { 0 < (matrix_network self.now.costs.now).cost a b }
         ensures { result ≡ nat_lt 0 ((view_network self.now).cost a b) }
     {
-        self.neighbours(a).contains(b)
+        !self.lost(a).contains(b)
+    }
+
+    /// The nodes to which a loses its link.
+    fn lost(&self, a: NodeId) -> NodeSet
+        ensures { (b : ℕ) → 0 < (matrix_network self.now.costs.now).cost a b →
+            has result b ≡ not (nat_lt 0 ((view_network self.now).cost a b)) }
+    {
+        match self.change {
+            Change::Nothing => NodeSet::empty(),
+            Change::LinkFails(link) => other_end(*link, a),
+        }
     }
 
     /// The network with costs of its own.

@@ -1,6 +1,7 @@
 use Rattle.std.proofs.Common.{◌≡◌, ◌+◌, ◌<◌, ltb, ap, set, ◌∙◌, sym, refl, subst, arith}
 use Rattle.std.proofs.lemmas.List.{get_or-replicate}
 use Rattle.theory.specs.Network.{Network}
+use Rattle.theory.proofs.NextHops.{next_hop_is}
 use Rattle.types.specs.Change.{changed}
 use Rattle.types.specs.NodeSets.{has}
 use Rattle.types.specs.declared.node_set.NodeSet.{NodeSet}
@@ -21,6 +22,12 @@ bounds-senders-index c =
     let r = c.args.self.now in
     omega (arith, c.index.ensures, hop_within (routes_network r) (routes_lawful r) c.args.d c.loop-a.a c.in-Some.e c.in-Some.ensures, r.costs.few)
 
+pub keeps-requires : goal.keeps-requires
+keeps-requires c =
+    let r = c.args.self.now in
+    let hop = next_hop_is (routes_network r) c.args.d c.loop-a.a c.in-Some.e (sym c.in-Some.ensures) in
+    subst (λ (z : Network). 0 < z.cost c.loop-a.a c.in-Some.e) (sym c.after-view.ensures.before) hop.near.link
+
 pub loop-a-preserved : goal.loop-a-preserved
 loop-a-preserved c =
     let r = c.args.self.now in
@@ -31,10 +38,10 @@ loop-a-preserved c =
     let m : k < z.n = omega (arith, c.nodes-a-end.ensures.value) in
     elim c.match-hop.branch [
       | in-Some w ↦
-          let there = subst (λ (x : Network). w.has_link.result ≡ ltb 0 (x.cost k w.in-Some.e)) c.after-view.ensures.network w.has_link.ensures in
-          subst (Sorted z y c.args.d (k + 1)) (sym w.senders-is) (sorted_to z y (routes_limited r) c.args.d k c.loop-a.senders _ m i w.in-Some.e w.insert.new.self (hop_within z (routes_lawful r) c.args.d k w.in-Some.e w.in-Some.ensures) w.in-Some.ensures (sym there ∙ w.if-has_link.true) refl (ap (λ j. set c.loop-a.senders.to j w.insert.new.self) w.index.ensures) (rw w.index.ensures at w.insert.ensures))
+          let there = subst (λ (x : Network). w.keeps.result ≡ ltb 0 (x.cost k w.in-Some.e)) c.after-view.ensures.network w.keeps.ensures in
+          subst (Sorted z y c.args.d (k + 1)) (sym w.senders-is) (sorted_to z y (routes_limited r) c.args.d k c.loop-a.senders _ m i w.in-Some.e w.insert.new.self (hop_within z (routes_lawful r) c.args.d k w.in-Some.e w.in-Some.ensures) w.in-Some.ensures (sym there ∙ w.if-keeps.true) refl (ap (λ j. set c.loop-a.senders.to j w.insert.new.self) w.index.ensures) (rw w.index.ensures at w.insert.ensures))
       | in-Some-2 w ↦
-          let there = subst (λ (x : Network). w.has_link.result ≡ ltb 0 (x.cost k w.in-Some.e)) c.after-view.ensures.network w.has_link.ensures in
-          subst (Sorted z y c.args.d (k + 1)) (sym w.senders-is) (sorted_cut z y (routes_limited r) c.args.d k c.loop-a.senders _ m i w.in-Some.e w.in-Some.ensures (sym there ∙ w.if-has_link.false) refl w.insert-in-Some-2.ensures)
+          let there = subst (λ (x : Network). w.keeps.result ≡ ltb 0 (x.cost k w.in-Some.e)) c.after-view.ensures.network w.keeps.ensures in
+          subst (Sorted z y c.args.d (k + 1)) (sym w.senders-is) (sorted_cut z y (routes_limited r) c.args.d k c.loop-a.senders _ m i w.in-Some.e w.in-Some.ensures (sym there ∙ w.if-keeps.false) refl w.insert-in-Some-2.ensures)
       | in-None w ↦ sorted_not z y (routes_limited r) c.args.d k c.loop-a.senders c.match-hop.senders m i w.in-None.ensures w.senders-is
     ]
