@@ -1,10 +1,1 @@
-pub mod Places
-pub mod Sets
-pub mod Inside
-pub mod Hops
-pub mod Plays
-pub mod Replies
-pub mod Failing
-pub mod Arriving
-pub mod Untouched
-pub mod Sending
+pub mod Moving
