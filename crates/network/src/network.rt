@@ -2,6 +2,7 @@ ghost use Rattle.std.specs.Prelude.{◌≡◌, ℕ, ◌+◌, ◌^◌, ◌<◌, I
 ghost use Rattle.links.specs.Links.{IsNodeCount};
 ghost use Rattle.links.specs.Topology.{network};
 ghost use Rattle.network.specs.Arrival.{SameArrivals};
+ghost use Rattle.network.specs.Errors.{wants_memory};
 ghost use Rattle.network.specs.Places.{AllIdle, PacketsInPlace, RoutersInPlace};
 
 use crate::arrival::Arrival;
@@ -108,10 +109,11 @@ impl Network {
         ensures memory { OnMemory result (Unchanged self.old self.new ⊎
             Becomes self.old self.new (notices link link.a (system self.old))) }
     {
-        self.judge(link.a, link)?;
-        self.judge(link.b, link)?;
-        self.hear(link.a, link.a, Message::LinkDown(link))?;
-        self.hear(link.b, link.b, Message::LinkDown(link))
+        let LinkId { a, b } = link;
+        self.judge(a, link)?;
+        self.judge(b, link)?;
+        self.hear(a, a, Message::LinkDown(link))?;
+        self.hear(b, b, Message::LinkDown(link))
     }
 
     /// What it is to the router at a node that the link has failed.
@@ -169,7 +171,7 @@ impl Network {
         make_room(&mut self.arrivals, number)?;
         let Sent { from, to, message } = self.said[number];
         let answer = self.hear(to, from, message);
-        if let Err(RouterError::Memory(_)) = answer {
+        if wants_memory(answer) {
             return answer;
         }
         self.arrivals[number] = then;
@@ -231,6 +233,13 @@ fn all_routers(heap: Global, topology: &Topology) -> Result<Vec<Router>, AllocEr
         routers.push(Router::new(heap, topology, NodeId(node)))?;
     }
     Ok(routers)
+}
+
+/// Was there not enough memory for it?
+fn wants_memory(answer: Result<(), RouterError>) -> bool
+    ensures { result ≡ wants_memory answer }
+{
+    matches!(answer, Err(RouterError::Memory(_)))
 }
 
 /// An entry for a message, and for those before it.
