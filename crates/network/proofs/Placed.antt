@@ -30,12 +30,3 @@ packets_set rs fs q f l p h = set_all flight_of (λ k x. node_in x < length rs) 
 
 pub packets_push : (rs : List Router) (fs : List Flight) (f : Flight) → node_in (flight_of f) < length rs → PacketsInPlace rs fs → PacketsInPlace rs (fs ++ f ∷ [])
 packets_push rs fs f p h = push_all flight_of (λ k x. node_in x < length rs) fs f system.NoPacket p h
-
--- a packet's node, in each state
-pub node_in_lem : (f : Flight) → node_in (flight_of f) ≡ place_of f
-node_in_lem f = by f.state
-  where
-    by : (s : FlightState) → node_in (flight_in s (place_of f) f.spent) ≡ place_of f
-    by (state.UnderWay p) = refl
-    by state.Delivered = refl
-    by (state.Dropped r) = refl
