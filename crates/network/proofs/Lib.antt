@@ -4,5 +4,7 @@ pub mod Failing
 pub mod Hops
 pub mod Moving
 pub mod Placed
+pub mod Plays
 pub mod Replies
+pub mod Sending
 pub mod Sets

@@ -1,0 +1,17 @@
+use Rattle.std.proofs.Common.{inr, subst}
+use Rattle.network.proofs.Sending.{sends, sends_after, sends_calm}
+use Rattle.network.proofs.network.Network.send.Goals as goal
+use Rattle.network.specs.Packets.{Sends}
+
+pub returns : goal.returns
+returns c =
+    let old = c.args.self.now in
+    let p = c.in_ok-number.ensures.ok in
+    let h = c.in_ok-play.ensures in
+    record {
+      sends = sends c.args.request c.in_ok-number.number old c.put.new.self c.play.new.self p h.moves;
+      ends = h.ends;
+      arrives = sends_after c.args.request c.in_ok-number.number old c.put.new.self c.play.new.self p h.arrives;
+      arrives_calm = sends_calm c.args.request c.in_ok-number.number old c.put.new.self c.play.new.self p h.arrives_calm;
+      memory = tt;
+    }
