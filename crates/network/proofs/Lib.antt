@@ -8,3 +8,4 @@ pub mod Plays
 pub mod Replies
 pub mod Sending
 pub mod Sets
+pub mod Untouched
