@@ -1,42 +1,37 @@
--- Messages that arrive. Assumes nothing.
-use Rattle.std.proofs.Common.{◌≡◌, ℕ, zero, suc, ◌<◌, Bool, true, false, cond, ◌||◌, eqb, ltb, ◌⊎◌, List, [], ◌∷◌, length, get_or, set, Some, Ok, Err, vec_items, Result, sym, refl, ap, ◌∙◌, subst, ap₂, inl, inr, arith}
+-- Messages that arrive.
+use Rattle.std.proofs.Common.{◌≡◌, ℕ, zero, suc, ◌<◌, Bool, true, false, cond, ◌||◌, eqb, ltb, List, [], ◌∷◌, length, get_or, set, Some, Ok, Err, OnOk, Result, vec_items, sym, refl, ap, ◌∙◌, subst, ap₂, inl, inr, arith}
 use mathlib.Core.Path.{fun_ext}
-use Rattle.std.proofs.lemmas.List.{get_or-set_same, get_or-set_other}
-use Rattle.std.proofs.lemmas.Bool.{cases_eq, eq-eqb, ne_eqb, cond-true, cond-false, and_parts, ltb-true, both_ways}
-use Rattle.std.specs.Result.{IsErrAnd}
-use Rattle.links.specs.declared.fault.Fault.{Fault}
-use Rattle.links.specs.declared.fault.Fault.TheVariants.{Memory}
-use Rattle.messages.specs.Messages.{message_of, sent_of, sents}
-use Rattle.messages.specs.declared.message.Sent.{Sent}
-use Rattle.protocol.specs.Hearing.{hear}
-use Rattle.protocol.specs.Router as protocol
-use Rattle.protocol.specs.System.{System, nth, go_on, arrive}
-use Rattle.switchover.specs.Replies.{RefusedBy}
-use Rattle.network.specs.Events.{SameArrivals, ByMemory, HeardAs, Becomes, Came, CameAs, reply_in, is_over, under_way}
-use Rattle.network.specs.Model.{system, has_come, path_of_packet}
-use Rattle.network.specs.declared.network.Network.{Network}
+use Rattle.network.specs.Arrival.{arrival_in, has_come, is_over, SameArrivals}
+use Rattle.network.specs.Errors.{wants_memory, IfRefused, OnMemory, UnlessMemory}
+use Rattle.network.specs.Events.{is_message_under_way, reply_in, reply_to, Arrives, Becomes, Beside, IsAccepted, Unchanged}
+use Rattle.network.specs.Hearing as hearing
+use Rattle.network.specs.Model.{system}
 use Rattle.network.specs.declared.arrival.Arrival.{Arrival}
 use Rattle.network.specs.declared.arrival.Arrival.TheVariants.{NotYet}
+use Rattle.network.specs.declared.network.Network.{Network}
+use Rattle.protocol.specs.Hearing.{hear}
+use Rattle.protocol.specs.Router as protocol
+use Rattle.protocol.specs.System.{System, arrive, go_on, nth}
+use Rattle.router.specs.declared.error.RouterError.{RouterError}
+use Rattle.router.specs.declared.error.RouterError.TheVariants.{Refused, Memory}
+use Rattle.std.proofs.lemmas.Bool.{and_parts, both_ways, cases_eq, cond-false, cond-true, eq-eqb, ltb-true, ne_eqb}
+use Rattle.std.proofs.lemmas.List.{get_or-set_other, get_or-set_same}
+use Rattle.types.specs.declared.message.Sent.{Sent}
 
 -- a message by its number
-nth_at : (ms : List Sent) (k : ℕ) (m : Sent) → k < length ms → m ≡ get_or ms k m → nth (sents ms) k ≡ Some (sent_of m)
+nth_at : (ms : List Sent) (k : ℕ) (m : Sent) → k < length ms → m ≡ get_or ms k m → nth ms k ≡ Some m
 unfolding nth
 nth_at [] k m l e = absurd (omega arith)
-nth_at (x ∷ ms) zero m l e = ap (λ y. Some (sent_of y)) (sym e)
+nth_at (x ∷ ms) zero m l e = ap Some (sym e)
 nth_at (x ∷ ms) (suc k) m l e = nth_at ms k m (omega arith) e
 
 abbrev with_came : (ℕ → Bool) → System → System
-with_came f σ = record { routers = σ.routers; said = σ.said; came = f; flights = σ.flights }
+with_came f σ = record σ { came = f }
 
-with_came_lem : (σ : System) (u : ℕ) (f g : ℕ → Bool) (r : protocol.Reply) → with_came g (go_on σ u f r) ≡ go_on σ u g r
-with_came_lem σ u f g (protocol.Refused k) = refl
-with_came_lem σ u f g protocol.Stays = refl
-with_came_lem σ u f g (protocol.Goes s ms) = refl
-
-refused_came : (σ : System) (u : ℕ) (g : ℕ → Bool) (r : protocol.Reply) (f : Fault) → RefusedBy r f → with_came g σ ≡ go_on σ u g r
-refused_came σ u g (protocol.Refused k) f h = refl
-refused_came σ u g protocol.Stays f h = absurd h
-refused_came σ u g (protocol.Goes s ms) f h = absurd h
+came_on : (σ : System) (u : ℕ) (f g : ℕ → Bool) (r : protocol.Reply) → with_came g (go_on σ u f r) ≡ go_on σ u g r
+came_on σ u f g (protocol.Refused k) = refl
+came_on σ u f g protocol.Stays = refl
+came_on σ u f g (protocol.Goes s ms) = refl
 
 -- an entry set anew
 marked : {X : Type 0} (h : Arrival → X) (old mid : List Arrival) (k : ℕ) (a : Arrival) → SameArrivals old mid → k < length mid → (j : ℕ) → h (get_or (set mid k a) j NotYet) ≡ cond (eqb j k) (h a) (h (get_or old j NotYet))
@@ -49,21 +44,28 @@ or_cond : (b x y : Bool) → x ≡ true → cond b x y ≡ (b || y)
 or_cond true x y e = e
 or_cond false x y e = refl
 
--- what `bring` has done when it marks that message k has come
+-- message k has arrived, or has not
+pub record Brings (k : ℕ) (over : Bool) (old new : Network) {A : Type 0} (o : Result A RouterError) : Type 0 where
+  pub arrives : UnlessMemory o (Arrives k over old new)
+  pub accepted : OnOk o (IsAccepted (reply_to k (system old)))
+  pub refused : IfRefused o (λ f. reply_to k (system old) ≡ protocol.Refused f)
+  pub memory : OnMemory o (Unchanged old new)
+
+-- its entry is made, it is heard, and then its entry is set
 pub record Marks (k : ℕ) (then : Arrival) (old mid far new : Network) : Type 0 where
   pub come : has_come then ≡ true
-  pub sent : under_way old k ≡ true
+  pub under_way : is_message_under_way old k ≡ true
   pub same : SameArrivals (vec_items old.arrivals) (vec_items mid.arrivals)
   pub room : k < length (vec_items mid.arrivals)
-  pub before : Becomes old mid (system old)
+  pub before : Unchanged old mid
   pub kept : vec_items far.arrivals ≡ vec_items mid.arrivals
-  pub is : system new ≡ with_came (λ j. has_come (get_or (set (vec_items far.arrivals) k then) j NotYet)) (system far)
-  pub stay : (p : ℕ) → path_of_packet new p ≡ path_of_packet far p
+  pub is : system new ≡ with_came (λ j. has_come (arrival_in (set (vec_items far.arrivals) k then) j)) (system far)
+  pub beside : Beside far new
   pub mark : vec_items new.arrivals ≡ set (vec_items far.arrivals) k then
 
-pub came_as : (k : ℕ) (m : Sent) (then : Arrival) (old mid far new : Network) {A : Type 0} (o : Result A Fault) → Marks k then old mid far new → m ≡ get_or (vec_items old.said) k m →
-    HeardAs m.to.0 m.from.0 (message_of m.message) mid far o → ByMemory false o → CameAs k (is_over then) old new o
-came_as k m then old mid far new o M e h n = by o h n
+pub marks : (k : ℕ) (m : Sent) (then : Arrival) (old mid far new : Network) {A : Type 0} (o : Result A RouterError) → Marks k then old mid far new → m ≡ get_or (vec_items old.said) k m →
+    hearing.Goes m.to (hear ((system mid).routers m.to) m.from m.message) mid far o → wants_memory o ≡ false → Brings k (is_over then) old new o
+marks k m then old mid far new o M e h n = by o h n
   where
     σ : System
     σ = system old
@@ -71,52 +73,66 @@ came_as k m then old mid far new o M e h n = by o h n
     g : ℕ → Bool
     g = λ j. eqb j k || σ.came j
 
-    u : ℕ
-    u = m.to.0
-
     reply : System → protocol.Reply
-    reply τ = hear (τ.routers u) m.from.0 (message_of m.message)
+    reply τ = hear (τ.routers m.to) m.from m.message
 
-    here : nth σ.said k ≡ Some (sent_of m)
-    here = nth_at (vec_items old.said) k m (ltb-true k (length (vec_items old.said)) (and_parts (ltb k (length (vec_items old.said))) _ M.sent).0) e
+    here : nth σ.said k ≡ Some m
+    here = nth_at (vec_items old.said) k m (ltb-true k (length (vec_items old.said)) (and_parts (ltb k (length (vec_items old.said))) _ M.under_way).0) e
 
     came : (λ j. has_come (get_or (set (vec_items far.arrivals) k then) j NotYet)) ≡ g
     came = fun_ext (λ j.
         ap (λ l. has_come (get_or (set l k then) j NotYet)) M.kept ∙
         (marked has_come (vec_items old.arrivals) (vec_items mid.arrivals) k then M.same M.room j ∙ or_cond (eqb j k) (has_come then) (σ.came j) M.come))
 
-    arrived : (τ : System) → system far ≡ τ → with_came g τ ≡ go_on σ u g (reply σ) → ((p : ℕ) → path_of_packet far p ≡ path_of_packet mid p) → Came k (is_over then) old new
-    arrived τ f w p =
+    arrives : (τ : System) → Becomes mid far τ → with_came g τ ≡ go_on σ m.to g (reply σ) → Arrives k (is_over then) old new
+    arrives τ b w =
         record {
-          sent = M.sent;
-          is = M.is ∙ (ap₂ with_came came f ∙ (w ∙ sym (ap (arrive σ k) here)));
-          paths = λ q. M.stay q ∙ (p q ∙ M.before.paths q);
-          waiting = λ j.
+          is = M.is ∙ (ap₂ with_came came b.is ∙ (w ∙ sym (ap (arrive σ k) here)));
+          beside = record {
+            nodes = M.beside.nodes ∙ (b.beside.nodes ∙ M.before.beside.nodes);
+            packets = M.beside.packets ∙ (b.beside.packets ∙ M.before.beside.packets);
+            paths = λ q. M.beside.paths q ∙ (b.beside.paths q ∙ M.before.beside.paths q);
+          };
+          over = λ j.
               ap (λ l. is_over (get_or l j NotYet)) (M.mark ∙ ap (λ l. set l k then) M.kept) ∙ marked is_over (vec_items old.arrivals) (vec_items mid.arrivals) k then M.same M.room j;
         }
 
-    by : {A : Type 0} (o : Result A Fault) → HeardAs u m.from.0 (message_of m.message) mid far o → ByMemory false o → CameAs k (is_over then) old new o
-    by (Ok x) h n =
-        arrived (go_on σ u σ.came (reply σ)) (h.is ∙ ap (λ τ. go_on τ u τ.came (reply τ)) M.before.is) (with_came_lem σ u σ.came g (reply σ)) h.paths
-    by {A} (Err f) h n = or h.1
-      where
-        or : RefusedBy (reply (system mid)) f ⊎ (f ≡ Memory) → CameAs k (is_over then) old new {A = A} (Err f)
-        or (inl r) =
-            let q = subst (λ τ. RefusedBy (reply τ) f) M.before.is r in
-            inl (arrived σ (h.0.is ∙ M.before.is) (refused_came σ u g (reply σ) f q) h.0.paths, subst (λ x. RefusedBy (reply_in σ x) f) (sym here) q)
-        or (inr e) = absurd (n e)
+    answer : reply_to k σ ≡ reply (system mid)
+    answer = ap (reply_in σ) here ∙ sym (ap reply M.before.is)
 
--- where memory is wanting nothing has come
-pub not_come : (k : ℕ) (over : Bool) (old mid far : Network) {A : Type 0} (o : Result A Fault) → Becomes old mid (system old) → (u w : ℕ) (m : protocol.Message) → HeardAs u w m mid far o → ByMemory true o → CameAs k over old far o
-not_come k over old mid far (Ok x) b u w m h e = absurd (both_ways true e refl)
-not_come k over old mid far (Err f) b u w m h e = inr (e, record { is = h.0.is ∙ b.is; paths = λ p. h.0.paths p ∙ b.paths p; waiting = λ j. h.0.waiting j ∙ b.waiting j })
+    by : {A : Type 0} (o : Result A RouterError) → hearing.Goes m.to (reply (system mid)) mid far o → wants_memory o ≡ false → Brings k (is_over then) old new o
+    by (Ok x) h n =
+        record {
+          arrives = arrives (go_on (system mid) m.to (system mid).came (reply (system mid))) h.0 (ap (λ τ. with_came g (go_on τ m.to τ.came (reply τ))) M.before.is ∙ came_on σ m.to σ.came g (reply σ));
+          accepted = subst IsAccepted (sym answer) h.1;
+          refused = tt;
+          memory = tt;
+        }
+    by (Err (Refused f)) h n =
+        record {
+          arrives = arrives (system mid) h.0 (ap (with_came g) M.before.is ∙ ap (go_on σ m.to g) (sym (sym (ap reply M.before.is) ∙ h.1)));
+          accepted = tt;
+          refused = answer ∙ h.1;
+          memory = tt;
+        }
+    by (Err (Memory e)) h n = absurd (both_ways true n refl)
+
+-- where memory is wanting nothing has arrived
+pub unmarked : (k : ℕ) (over : Bool) (old mid far : Network) {A : Type 0} (o : Result A RouterError) → Unchanged old mid → (u : ℕ) (r : protocol.Reply) → hearing.Goes u r mid far o → wants_memory o ≡ true → Brings k over old far o
+unmarked k over old mid far (Ok x) b u r h e = absurd (both_ways false refl e)
+unmarked k over old mid far (Err (Refused f)) b u r h e = absurd (both_ways false refl e)
+unmarked k over old mid far (Err (Memory x)) b u r h e =
+    record {
+      arrives = tt;
+      accepted = tt;
+      refused = tt;
+      memory = record {
+        is = h.is ∙ b.is;
+        beside = record { nodes = h.beside.nodes ∙ b.beside.nodes; packets = h.beside.packets ∙ b.beside.packets; paths = λ p. h.beside.paths p ∙ b.beside.paths p };
+        over = λ j. h.over j ∙ b.over j;
+      };
+    }
 
 -- the same arrivals make the same system
-pub room_made : (old new : Network) → SameArrivals (vec_items old.arrivals) (vec_items new.arrivals) → system new ≡ with_came (λ k. has_come (get_or (vec_items new.arrivals) k NotYet)) (system old) →
-    ((p : ℕ) → path_of_packet new p ≡ path_of_packet old p) → Becomes old new (system old)
-room_made old new s e p = record { is = e ∙ ap (λ f. with_came f (system old)) (fun_ext (λ k. ap has_come (s k))); paths = p; waiting = λ k. ap is_over (s k) }
-
--- nor where there is no room for its entry
-pub no_room : (k : ℕ) (over : Bool) (old new : Network) (r : Result (Unit {0}) Fault) → IsErrAnd r (λ f. f ≡ Memory) → Becomes old new (system old) → CameAs k over old new r
-no_room k over old new (Ok x) h b = absurd h
-no_room k over old new (Err f) h b = inr (h, b)
+pub room_made : (old new : Network) → SameArrivals (vec_items old.arrivals) (vec_items new.arrivals) → system new ≡ with_came (λ k. has_come (arrival_in (vec_items new.arrivals) k)) (system old) → Beside old new → Unchanged old new
+room_made old new s e b = record { is = e ∙ ap (λ f. with_came f (system old)) (fun_ext (λ k. ap has_come (s k))); beside = b; over = λ k. ap is_over (s k) }

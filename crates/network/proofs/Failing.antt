@@ -1,61 +1,80 @@
--- A link fails, and its ends notice. Assumes nothing.
-use Rattle.std.proofs.Common.{◌≡◌, ℕ, Bool, eqb, ◌⊎◌, Ok, Err, Result, sym, refl, ap, ◌∙◌, subst, inl, inr}
-use Rattle.std.proofs.lemmas.Bool.{cond-false, ne_eqb}
-use Rattle.std.specs.Result.{IsErrAnd}
-use Rattle.links.specs.declared.fault.Fault.{Fault}
-use Rattle.links.specs.declared.fault.Fault.TheVariants.{Memory, NoSuchLink}
-use Rattle.theory.specs.Network.{LinkId}
+-- A link fails, and its ends notice.
+use Rattle.std.proofs.Common.{◌≡◌, ◌≢◌, ℕ, Bool, eqb, ◌⊎◌, Ok, Err, OnOk, Result, sym, refl, ap, ◌∙◌, subst, inl, inr}
+use Rattle.network.specs.Errors.{IfRefused, OnMemory}
+use Rattle.network.specs.Events.{Becomes, Beside, BothEndsAccept, IsAccepted, OneEndRefuses, Unchanged}
+use Rattle.network.specs.Hearing as hearing
+use Rattle.network.specs.Model.{system}
+use Rattle.network.specs.declared.network.Network.{Network}
 use Rattle.protocol.specs.Hearing.{hear, hear_down}
 use Rattle.protocol.specs.Router as protocol
-use Rattle.protocol.specs.Router.{among, LinkDown}
-use Rattle.protocol.specs.System.{System, go_on, notices}
-use Rattle.switchover.specs.Failures.{Accepts, Judged}
-use Rattle.switchover.specs.Replies.{RefusedBy}
-use Rattle.network.specs.Events.{Becomes, HeardAs, FailAsked}
-use Rattle.network.specs.Model.{system, outside}
-use Rattle.network.specs.declared.network.Network.{Network}
+use Rattle.protocol.specs.System.{System, fails, go_on, notices}
+use Rattle.router.specs.Replies.{Judged}
+use Rattle.router.specs.declared.error.RouterError.{RouterError}
+use Rattle.router.specs.declared.error.RouterError.TheVariants.{Refused, Memory}
+use Rattle.router.specs.declared.report.Report.{Report}
+use Rattle.router.specs.declared.report.Report.TheVariants.{New, Duplicate}
+use Rattle.std.proofs.lemmas.Bool.{cond-false, ne_eqb}
+use Rattle.theory.specs.Network.{LinkId}
+use Rattle.types.specs.declared.fault.Refusal.{Refusal}
+use Rattle.types.specs.declared.message.Message.TheVariants.{LinkDown}
 
--- outside the network no link is known
-pub hear_outside : (w : ℕ) (m : protocol.Message) → RefusedBy (hear outside w m) NoSuchLink
-unfolding among
-hear_outside w (protocol.LinkDown l) = refl
-hear_outside w (protocol.Switched u d l) = refl
-
-pub judged_outside : (u : ℕ) (l : LinkId) (s : protocol.Router) (r : Result (Unit {0}) Fault) → s ≡ outside → IsErrAnd r (λ f. f ≡ NoSuchLink) → Judged (hear_down l s) r
-judged_outside u l s (Ok x) e h = absurd h
-judged_outside u l s (Err f) e h = rw (e, h) (hear_outside u (LinkDown l))
-
-pub heard_outside : (u w : ℕ) (m : protocol.Message) (old new : Network) (r : Result (Unit {0}) Fault) → (system old).routers u ≡ outside → IsErrAnd r (λ f. f ≡ NoSuchLink) → Becomes old new (system old) → HeardAs u w m old new r
-heard_outside u w m old new (Ok x) e h b = absurd h
-heard_outside u w m old new (Err f) e h b = (b, inl (rw (e, h) (hear_outside w m)))
-
+-- one change after another
 pub then : (old mid new : Network) (σ τ : System) → Becomes old mid σ → Becomes mid new τ → Becomes old new τ
-then old mid new σ τ a b = record { is = b.is; paths = λ p. b.paths p ∙ a.paths p; waiting = λ k. b.waiting k ∙ a.waiting k }
+then old mid new σ τ a b =
+    record {
+      is = b.is;
+      beside = record { nodes = b.beside.nodes ∙ a.beside.nodes; packets = b.beside.packets ∙ a.beside.packets; paths = λ p. b.beside.paths p ∙ a.beside.paths p };
+      over = λ k. b.over k ∙ a.over k;
+    }
+
+pub becomes_same : (old new : Network) (σ τ : System) → σ ≡ τ → Becomes old new σ → Becomes old new τ
+becomes_same old new σ τ e b = record { is = b.is ∙ e; beside = b.beside; over = b.over }
+
+-- a router that knows what the failure is to it accepts that
+accepts : (l : LinkId) (s : protocol.Router) (r : Report) → Judged l s (Ok r) → IsAccepted (hear_down l s)
+accepts l s New h = subst IsAccepted (sym h) tt
+accepts l s Duplicate h = subst IsAccepted (sym h) tt
 
 -- the other routers stay as they are
-other_router : (σ : System) (u v : ℕ) (came : ℕ → Bool) (reply : protocol.Reply) → (v ≡ u → ⊥) → (go_on σ u came reply).routers v ≡ σ.routers v
+other_router : (σ : System) (u v : ℕ) (came : ℕ → Bool) (reply : protocol.Reply) → v ≢ u → (go_on σ u came reply).routers v ≡ σ.routers v
 other_router σ u v came (protocol.Refused k) h = refl
 other_router σ u v came protocol.Stays h = refl
 other_router σ u v came (protocol.Goes s ms) h = cond-false (eqb v u) s (σ.routers v) (ne_eqb v u h)
 
-not_both : (r : protocol.Reply) (f : Fault) → Accepts r → RefusedBy r f → ⊥
-not_both (protocol.Refused k) f a b = a
-not_both protocol.Stays f a b = b
-not_both (protocol.Goes s ms) f a b = b
+-- a link has failed, or has not
+pub record Fails (l : LinkId) (old new : Network) {A : Type 0} (o : Result A RouterError) : Type 0 where
+  pub fails : OnOk o (Becomes old new (fails l (system old)))
+  pub accepted : OnOk o (BothEndsAccept l (system old))
+  pub refused : IfRefused o (λ f. OneEndRefuses f l (system old))
+  pub unchanged : IfRefused o (λ f. Unchanged old new)
+  pub memory : OnMemory o (Unchanged old new ⊎ Becomes old new (notices l l.a (system old)))
 
-pub fail_asked : (l : LinkId) (old mid new : Network) {A : Type 0} (o : Result A Fault) → (l.a ≡ l.b → ⊥) → Accepts (hear_down l ((system old).routers l.b)) →
-    Becomes old mid (notices l l.a (system old)) → HeardAs l.b l.b (LinkDown l) mid new o → FailAsked l old new o
-fail_asked l old mid new (Ok x) n a b h =
-    let w = then old mid new _ _ b h in
-    record { is = w.is ∙ ap (notices l l.b) b.is; paths = w.paths; waiting = w.waiting }
-fail_asked l old mid new (Err f) n a b h = inr (by h.1, record { is = w.is ∙ b.is; paths = w.paths; waiting = w.waiting })
+-- the first end notices, and then maybe the second
+hear_both : (l : LinkId) (old mid new : Network) (p q : Report) {A : Type 0} (o : Result A RouterError) → l.a ≢ l.b → Judged l ((system old).routers l.a) (Ok p) → Judged l ((system old).routers l.b) (Ok q) →
+    Becomes old mid (notices l l.a (system old)) → hearing.Goes l.b (hear_down l ((system mid).routers l.b)) mid new o → Fails l old new o
+hear_both l old mid new p q (Ok x) n i j b h =
+    record {
+      fails = becomes_same old new _ _ (ap (notices l l.b) b.is) (then old mid new _ _ b h.0);
+      accepted = (accepts l ((system old).routers l.a) p i, accepts l ((system old).routers l.b) q j);
+      refused = tt;
+      unchanged = tt;
+      memory = tt;
+    }
+hear_both l old mid new p q (Err (Memory e)) n i j b h =
+    record { fails = tt; accepted = tt; refused = tt; unchanged = tt; memory = inr (becomes_same old new _ _ b.is (then old mid new _ _ b h)) }
+hear_both l old mid new p q (Err (Refused f)) n i j b h =
+    let same : (system mid).routers l.b ≡ (system old).routers l.b = ap (λ (σ : System). σ.routers l.b) b.is ∙ other_router (system old) l.a l.b _ (hear ((system old).routers l.a) l.a (LinkDown l)) (λ e. n (sym e)) in
+    absurd (subst IsAccepted (subst (λ s. hear_down l s ≡ protocol.Refused f) same h.1) (accepts l ((system old).routers l.b) q j))
+
+-- of a link with these ends
+pub both_hear : (a b : ℕ) (l : LinkId) (old mid new : Network) (p q : Report) {A : Type 0} (o : Result A RouterError) → record { a = a; b = b } ≡ l → l.a ≢ l.b → Judged l ((system old).routers a) (Ok p) → Judged l ((system old).routers b) (Ok q) →
+    Becomes old mid (go_on (system old) a (system old).came (hear_down l ((system old).routers a))) → hearing.Goes b (hear_down l ((system mid).routers b)) mid new o → Fails l old new o
+both_hear a b l old mid new p q o e n i j c h =
+    hear_both l old mid new p q o n (subst (λ v. Judged l ((system old).routers v) (Ok p)) x i) (subst (λ v. Judged l ((system old).routers v) (Ok q)) y j)
+    (subst (λ v. Becomes old mid (go_on (system old) v (system old).came (hear_down l ((system old).routers v)))) x c) (subst (λ v. hearing.Goes v (hear_down l ((system mid).routers v)) mid new o) y h)
   where
-    w : Becomes old new (system mid)
-    w = then old mid new _ _ b h.0
+    x : a ≡ l.a
+    x = ap (λ (k : LinkId). k.a) e
 
-    same : (system mid).routers l.b ≡ (system old).routers l.b
-    same = ap (λ (σ : System). σ.routers l.b) b.is ∙ other_router (system old) l.a l.b _ (hear ((system old).routers l.a) l.a (LinkDown l)) (λ e. n (sym e))
-
-    by : RefusedBy (hear ((system mid).routers l.b) l.b (LinkDown l)) f ⊎ (f ≡ Memory) → f ≡ Memory
-    by (inl r) = absurd (not_both (hear_down l ((system old).routers l.b)) f a (subst (λ s. RefusedBy (hear_down l s) f) same r))
-    by (inr e) = e
+    y : b ≡ l.b
+    y = ap (λ (k : LinkId). k.b) e

@@ -1,108 +1,153 @@
--- Packets that are put, and that move. Assumes nothing.
-use Rattle.std.proofs.Common.{◌≡◌, ℕ, ◌<◌, ◌≤◌, cond, eqb, List, [], ◌∷◌, ◌++◌, map, length, get_or, set, Ok, Err, vec_items, Result, sym, refl, ap, ◌∙◌, subst, ap₂, inl, inr, arith}
+-- Packets that are put, and that move.
+use Rattle.std.proofs.Common.{◌≡◌, ◌≢◌, ℕ, ◌+◌, ◌<◌, ◌≤◌, cond, eqb, List, [], ◌∷◌, ◌++◌, map, length, get_or, set, vec_items, Ok, Err, OnOk, OnErr, Result, sym, refl, ap, ◌∙◌, subst, ap₂, arith, length-set}
 use mathlib.Core.Path.{fun_ext}
-use Rattle.std.proofs.lemmas.List.{get_or_past, length-map}
-use Rattle.std.proofs.lemmas.Bool.{cond-true, cond-false, eq-eqb, ne_eqb, cases_eq}
-use Rattle.links.specs.declared.fault.Fault.{Fault}
-use Rattle.links.specs.declared.fault.Fault.TheVariants.{Memory}
-use Rattle.messages.specs.declared.message.Sent.{Sent}
-use Rattle.protocol.specs.Packet.{Packet}
-use Rattle.protocol.specs.Router as protocol
-use Rattle.protocol.specs.System.{System, Flight, NoPacket, UnderWay, Delivered, Dropped, step, moved, put_on, Put, Hop}
-use Rattle.switchover.specs.Model.{model}
-use Rattle.switchover.specs.declared.router.Router.{Router}
-use Rattle.journeys.specs.Journeys.{flight_of, path_of, place_of, node_in, next_node, Moved}
-use Rattle.network.specs.Model.{system, system_of, router_at, flight_at, path_at, path_of_packet}
-use Rattle.network.specs.Playing.{goes_to, HopAsked}
+use Rattle.network.proofs.Placed.{in_place}
+use Rattle.network.proofs.Sets.{again, push_at, read_at, set_at}
+use Rattle.network.specs.Events.{is_message_over, Becomes, Unchanged}
+use Rattle.network.specs.Flight.{flight_of, next_nodes, node_in, packet_of_request, path_of, SameFlight}
+use Rattle.network.specs.Model.{nodes_in, packets_in, path_of_packet, system, system_of}
+use Rattle.network.specs.Packets.{goes_to, Apart, Hops, Puts}
+use Rattle.network.specs.Places.{flight_at, outside, path_at, router_at, PacketsInPlace, RoutersInPlace}
 use Rattle.network.specs.declared.arrival.Arrival.{Arrival}
-use Rattle.journeys.specs.declared.journey.Journey.{Journey}
+use Rattle.network.specs.declared.flight.Flight.{Flight}
 use Rattle.network.specs.declared.network.Network.{Network}
-use Rattle.network.proofs.Inside.{node_in_lem, moved_inside}
-use Rattle.network.proofs.Sets.{read_at, set_at, push_at}
+use Rattle.network.specs.declared.send_request.SendRequest.{SendRequest}
+use Rattle.protocol.proofs.Sending.{forward_sends}
+use Rattle.protocol.specs.Packet.{Decision, Deliver, Send, Drop, forward}
+use Rattle.protocol.specs.Router as protocol
+use Rattle.protocol.specs.System as system
+use Rattle.protocol.specs.System.{System, decided, moved, put_on, step, Hop, Put}
+use Rattle.router.specs.Model.{model}
+use Rattle.router.specs.declared.router.Router.{Router}
+use Rattle.routes.proofs.Costs.{matrix_lawful}
+use Rattle.std.proofs.lemmas.Bool.{cond-false, cond-true, eq-eqb, ne_eqb}
+use Rattle.std.proofs.lemmas.List.{get_or_past, length-map, length_push}
+use Rattle.types.specs.Packet.{Packet}
+use Rattle.types.specs.declared.message.Sent.{Sent}
 
--- with other flights
-abbrev with_flights : System → (ℕ → Flight) → System
-with_flights σ f = record { routers = σ.routers; said = σ.said; came = σ.came; flights = f }
+abbrev with_flights : System → (ℕ → system.Flight) → System
+with_flights σ f = record σ { flights = f }
 
-pub no_flight : (js : List Journey) (q : ℕ) → length js ≤ q → flight_at js q ≡ NoPacket
-no_flight js q h = get_or_past (map flight_of js) q NoPacket (omega (arith, length-map js flight_of))
+pub no_flight : (fs : List Flight) (q : ℕ) → length fs ≤ q → flight_at fs q ≡ system.NoPacket
+no_flight fs q h = get_or_past (map flight_of fs) q system.NoPacket (omega (arith, length-map fs flight_of))
 
 -- a packet is put under the next number
-pub put_system : (rs : List Router) (ms : List Sent) (cs : List Arrival) (js : List Journey) (j : Journey) (u : ℕ) (p : Packet) → flight_of j ≡ UnderWay u 0 p →
-    system_of rs ms cs (js ++ j ∷ []) ≡ step (Put (length js) u p) (system_of rs ms cs js)
-put_system rs ms cs js j u p h =
-    let n : put_on u p (flight_at js (length js)) ≡ UnderWay u 0 p = ap (put_on u p) (no_flight js (length js) (omega arith)) in
-    ap (with_flights (system_of rs ms cs js)) (fun_ext (λ k. push_at flight_of js j (UnderWay u 0 p) NoPacket h k ∙ ap (λ x. cond (eqb k (length js)) x (flight_at js k)) (sym n)))
+put_system : (rs : List Router) (ms : List Sent) (cs : List Arrival) (fs : List Flight) (f : Flight) (u : ℕ) (p : Packet) → flight_of f ≡ system.UnderWay u 0 p →
+    system_of rs ms cs (fs ++ f ∷ []) ≡ step (Put (length fs) u p) (system_of rs ms cs fs)
+put_system rs ms cs fs f u p h =
+    let n : put_on u p (flight_at fs (length fs)) ≡ system.UnderWay u 0 p = ap (put_on u p) (no_flight fs (length fs) (omega arith)) in
+    ap (with_flights (system_of rs ms cs fs)) (fun_ext (λ k. push_at flight_of fs f (system.UnderWay u 0 p) system.NoPacket h k ∙ ap (λ x. cond (eqb k (length fs)) x (flight_at fs k)) (sym n)))
 
-pub put_path : (js : List Journey) (j : Journey) (l : List ℕ) → path_of j ≡ l → path_at (js ++ j ∷ []) (length js) ≡ l
-put_path js j l h = push_at path_of js j l [] h (length js) ∙ cond-true (eqb (length js) (length js)) l _ (eq-eqb (length js) (length js) refl)
+put_path : (fs : List Flight) (f : Flight) (l : List ℕ) → path_of f ≡ l → path_at (fs ++ f ∷ []) (length fs) ≡ l
+put_path fs f l h = push_at path_of fs f l [] h (length fs) ∙ cond-true (eqb (length fs) (length fs)) l _ (eq-eqb (length fs) (length fs) refl)
 
-pub put_others : (js : List Journey) (j : Journey) (p : ℕ) → (p ≡ length js → ⊥) → path_at (js ++ j ∷ []) p ≡ path_at js p
-put_others js j p h = push_at path_of js j (path_of j) [] refl p ∙ cond-false (eqb p (length js)) (path_of j) _ (ne_eqb p (length js) h)
+put_others : (fs : List Flight) (f : Flight) (p : ℕ) → p ≢ length fs → path_at (fs ++ f ∷ []) p ≡ path_at fs p
+put_others fs f p h = push_at path_of fs f (path_of f) [] refl p ∙ cond-false (eqb p (length fs)) (path_of f) _ (ne_eqb p (length fs) h)
+
+-- the network new is old with other packets
+pub record WithFlights (fs : List Flight) (old new : Network) : Type 0 where
+  pub is : system new ≡ system_of (vec_items old.routers) (vec_items old.said) (vec_items old.arrivals) fs
+  pub flights : vec_items new.flights ≡ fs
+  pub nodes : nodes_in new ≡ nodes_in old
+  pub over : (k : ℕ) → is_message_over new k ≡ is_message_over old k
+
+pub puts : (r : SendRequest) (q : ℕ) (f : Flight) (old new : Network) → q ≡ packets_in old → flight_of f ≡ system.UnderWay r.start 0 (packet_of_request r) → path_of f ≡ r.start ∷ [] → WithFlights (vec_items old.flights ++ f ∷ []) old new → Puts r q old new
+puts r q f old new e h g w = rw e (
+  record {
+    next = refl;
+    is = w.is ∙ put_system (vec_items old.routers) (vec_items old.said) (vec_items old.arrivals) (vec_items old.flights) f r.start (packet_of_request r) h;
+    path = ap (λ l. path_at l (packets_in old)) w.flights ∙ put_path (vec_items old.flights) f (r.start ∷ []) g;
+    packets = ap length w.flights ∙ length_push (vec_items old.flights) f;
+    apart = record { nodes = w.nodes; paths = λ p n. ap (λ l. path_at l p) w.flights ∙ put_others (vec_items old.flights) f p n; over = w.over };
+  }
+)
 
 -- it matters only which router is where it is
-there : (f : ℕ → protocol.Router) (s : protocol.Router) (x : Flight) → f (node_in x) ≡ s → moved (λ u. s) x ≡ moved f x
-there f s NoPacket e = refl
-there f s (UnderWay u c p) e = ap (λ t. moved (λ v. t) (UnderWay u c p)) (sym e)
-there f s (Delivered u c) e = refl
-there f s (Dropped u c k) e = refl
+there : (f : ℕ → protocol.Router) (s : protocol.Router) (x : system.Flight) → f (node_in x) ≡ s → moved (λ u. s) x ≡ moved f x
+there f s system.NoPacket e = refl
+there f s (system.UnderWay u c p) e = ap (λ t. moved (λ v. t) (system.UnderWay u c p)) (sym e)
+there f s (system.Delivered u c) e = refl
+there f s (system.Dropped u c k) e = refl
 
--- the router r handles the packet j, which becomes i
-pub one_moves : (rs : List Router) (ms : List Sent) (cs : List Arrival) (js : List Journey) (q : ℕ) (r : Router) (j i : Journey) → q < length js → j ≡ get_or js q j → place_of j < length rs → r ≡ get_or rs (place_of j) r →
-    flight_of i ≡ moved (λ u. model r) (flight_of j) → system_of rs ms cs (set js q i) ≡ step (Hop q) (system_of rs ms cs js)
-one_moves rs ms cs js q r j i l e h g m =
-    let x : flight_at js q ≡ flight_of j = read_at flight_of js q j NoPacket l e in
-    let y : router_at rs (node_in (flight_of j)) ≡ model r = ap (router_at rs) (node_in_lem j) ∙ read_at model rs (place_of j) r _ h g in
-    let w : flight_of i ≡ moved (router_at rs) (flight_at js q) = m ∙ (there (router_at rs) (model r) (flight_of j) y ∙ ap (moved (router_at rs)) (sym x)) in
-    ap (with_flights (system_of rs ms cs js)) (fun_ext (set_at flight_of js q i (moved (router_at rs) (flight_at js q)) NoPacket l w))
+-- the packet f, which is number q, and the router where it is
+pub record At (rs : List Router) (fs : List Flight) (q : ℕ) (r : Router) (f : Flight) : Type 0 where
+  pub below : q < length fs
+  pub packet : f ≡ get_or fs q f
+  pub inside : node_in (flight_of f) < length rs
+  pub router : r ≡ get_or rs (node_in (flight_of f)) r
 
-pub one_path : (rs : List Router) (ms : List Sent) (cs : List Arrival) (js : List Journey) (q : ℕ) (r : Router) (j i : Journey) → q < length js → j ≡ get_or js q j → place_of j < length rs → r ≡ get_or rs (place_of j) r →
-    path_of i ≡ path_of j ++ next_node (model r) (flight_of j) → path_at (set js q i) q ≡ path_at js q ++ goes_to (system_of rs ms cs js) q
-one_path rs ms cs js q r j i l e h g m =
-    let x : flight_at js q ≡ flight_of j = read_at flight_of js q j NoPacket l e in
-    let y : router_at rs (node_in (flight_of j)) ≡ model r = ap (router_at rs) (node_in_lem j) ∙ read_at model rs (place_of j) r _ h g in
-    let w : goes_to (system_of rs ms cs js) q ≡ next_node (model r) (flight_of j) = ap (λ z. next_node (router_at rs (node_in z)) z) x ∙ ap (λ s. next_node s (flight_of j)) y in
-    set_at path_of js q i (path_of i) [] l refl q ∙ (cond-true (eqb q q) (path_of i) _ (eq-eqb q q refl) ∙ (m ∙ ap₂ (λ a b. a ++ b) (sym (read_at path_of js q j [] l e)) (sym w)))
+pub at : (rs l : List Router) (fs : List Flight) (q u : ℕ) (r : Router) (f : Flight) → PacketsInPlace rs fs → q < length fs → f ≡ get_or fs q f → l ≡ rs → u ≡ node_in (flight_of f) → r ≡ get_or l u r → At rs fs q r f
+at rs l fs q u r f p below e i j h =
+    record {
+      below = below;
+      packet = e;
+      inside = subst (λ x. node_in x < length rs) (read_at flight_of fs q f system.NoPacket below e) (p q below);
+      router = h ∙ ap₂ (λ (k : List Router) v. get_or k v r) i j;
+    }
 
-pub set_others : (js : List Journey) (q : ℕ) (i : Journey) → q < length js → (p : ℕ) → (p ≡ q → ⊥) → path_at (set js q i) p ≡ path_at js p
-set_others js q i l p h = set_at path_of js q i (path_of i) [] l refl p ∙ cond-false (eqb p q) (path_of i) _ (ne_eqb p q h)
+flight_here : (rs : List Router) (fs : List Flight) (q : ℕ) (r : Router) (f : Flight) → At rs fs q r f → flight_at fs q ≡ flight_of f
+flight_here rs fs q r f h = read_at flight_of fs q f system.NoPacket h.below h.packet
 
-pub again : {X : Type 0} (f : ℕ → X) (k q : ℕ) → cond (eqb k q) (f q) (f k) ≡ f k
-again f k q = elim (cases_eq k q) [
-  | inl w ↦ cond-true (eqb k q) (f q) (f k) (eq-eqb k q w) ∙ ap f (sym w)
-  | inr w ↦ cond-false (eqb k q) (f q) (f k) (ne_eqb k q w)
-]
+router_here : (rs : List Router) (fs : List Flight) (q : ℕ) (r : Router) (f : Flight) → At rs fs q r f → router_at rs (node_in (flight_of f)) ≡ model r
+router_here rs fs q r f h = read_at model rs (node_in (flight_of f)) r outside h.inside h.router
+
+-- it becomes g
+hop_system : (rs : List Router) (ms : List Sent) (cs : List Arrival) (fs : List Flight) (q : ℕ) (r : Router) (f g : Flight) → At rs fs q r f → flight_of g ≡ moved (λ u. model r) (flight_of f) →
+    system_of rs ms cs (set fs q g) ≡ step (Hop q) (system_of rs ms cs fs)
+hop_system rs ms cs fs q r f g h m =
+    let x : moved (router_at rs) (flight_at fs q) ≡ moved (λ u. model r) (flight_of f) = ap (moved (router_at rs)) (flight_here rs fs q r f h) ∙ sym (there (router_at rs) (model r) (flight_of f) (router_here rs fs q r f h)) in
+    ap (with_flights (system_of rs ms cs fs)) (fun_ext (λ k. set_at flight_of fs q g (moved (router_at rs) (flight_at fs q)) system.NoPacket h.below (m ∙ sym x) k))
+
+hop_path : (rs : List Router) (ms : List Sent) (cs : List Arrival) (fs : List Flight) (q : ℕ) (r : Router) (f g : Flight) → At rs fs q r f → path_of g ≡ path_of f ++ next_nodes (model r) (flight_of f) →
+    path_at (set fs q g) q ≡ path_at fs q ++ goes_to (system_of rs ms cs fs) q
+hop_path rs ms cs fs q r f g h m =
+    let x : goes_to (system_of rs ms cs fs) q ≡ next_nodes (model r) (flight_of f) = ap (λ z. next_nodes (router_at rs (node_in z)) z) (flight_here rs fs q r f h) ∙ ap (λ s. next_nodes s (flight_of f)) (router_here rs fs q r f h) in
+    set_at path_of fs q g (path_of g) [] h.below refl q ∙ (cond-true (eqb q q) (path_of g) _ (eq-eqb q q refl) ∙ (m ∙ ap₂ (λ a b. a ++ b) (sym (read_at path_of fs q f [] h.below h.packet)) (sym x)))
+
+hop_others : (fs : List Flight) (q : ℕ) (g : Flight) → q < length fs → (p : ℕ) → p ≢ q → path_at (set fs q g) p ≡ path_at fs p
+hop_others fs q g l p h = set_at path_of fs q g (path_of g) [] l refl p ∙ cond-false (eqb p q) (path_of g) _ (ne_eqb p q h)
+
+moves : (q : ℕ) (r : Router) (f g : Flight) (old new : Network) → At (vec_items old.routers) (vec_items old.flights) q r f → flight_of g ≡ moved (λ u. model r) (flight_of f) → path_of g ≡ path_of f ++ next_nodes (model r) (flight_of f) →
+    WithFlights (set (vec_items old.flights) q g) old new → Hops q old new
+moves q r f g old new h m p w =
+    record {
+      is = w.is ∙ hop_system (vec_items old.routers) (vec_items old.said) (vec_items old.arrivals) (vec_items old.flights) q r f g h m;
+      path = ap (λ l. path_at l q) w.flights ∙ hop_path (vec_items old.routers) (vec_items old.said) (vec_items old.arrivals) (vec_items old.flights) q r f g h p;
+      packets = ap length w.flights ∙ length-set (vec_items old.flights) q g;
+      apart = record { nodes = w.nodes; paths = λ k n. ap (λ l. path_at l k) w.flights ∙ hop_others (vec_items old.flights) q g h.below k n; over = w.over };
+    }
 
 -- where its flight and path are the same, all is
-pub same_flights : (rs : List Router) (ms : List Sent) (cs : List Arrival) (js : List Journey) (q : ℕ) (j i : Journey) → q < length js → j ≡ get_or js q j → flight_of i ≡ flight_of j → system_of rs ms cs (set js q i) ≡ system_of rs ms cs js
-same_flights rs ms cs js q j i l e m =
-    let x : flight_at js q ≡ flight_of j = read_at flight_of js q j NoPacket l e in
-    ap (with_flights (system_of rs ms cs js)) (fun_ext (λ k. set_at flight_of js q i (flight_at js q) NoPacket l (m ∙ sym x) k ∙ again (flight_at js) k q))
+stays : (q : ℕ) (r : Router) (f g : Flight) (old new : Network) → At (vec_items old.routers) (vec_items old.flights) q r f → SameFlight f g → WithFlights (set (vec_items old.flights) q g) old new → Unchanged old new
+stays q r f g old new h s w =
+    let fs = vec_items old.flights in
+    record {
+      is = w.is ∙ ap (with_flights (system old)) (fun_ext (λ k. set_at flight_of fs q g (flight_at fs q) system.NoPacket h.below (s.flight ∙ sym (flight_here (vec_items old.routers) fs q r f h)) k ∙ again (flight_at fs) k q));
+      beside = record {
+        nodes = w.nodes;
+        packets = ap length w.flights ∙ length-set fs q g;
+        paths = λ p. ap (λ l. path_at l p) w.flights ∙ (set_at path_of fs q g (path_at fs q) [] h.below (s.path ∙ sym (read_at path_of fs q f [] h.below h.packet)) p ∙ again (path_at fs) p q);
+      };
+      over = w.over;
+    }
 
-pub same_paths : (js : List Journey) (q : ℕ) (j i : Journey) → q < length js → j ≡ get_or js q j → path_of i ≡ path_of j → (p : ℕ) → path_at (set js q i) p ≡ path_at js p
-same_paths js q j i l e m p = set_at path_of js q i (path_at js q) [] l (m ∙ sym (read_at path_of js q j [] l e)) p ∙ again (path_at js) p q
+pub hops : (q : ℕ) (r : Router) (f g : Flight) (old new : Network) {A E : Type 0} (o : Result A E) → At (vec_items old.routers) (vec_items old.flights) q r f → OnOk o (flight_of g ≡ moved (λ u. model r) (flight_of f)) → OnOk o (path_of g ≡ path_of f ++ next_nodes (model r) (flight_of f)) →
+    OnErr o (SameFlight f g) → WithFlights (set (vec_items old.flights) q g) old new → OnOk o (Hops q old new) × OnErr o (Unchanged old new)
+hops q r f g old new (Ok x) h m p s w = (moves q r f g old new h m p w, tt)
+hops q r f g old new (Err e) h m p s w = (tt, stays q r f g old new h s w)
 
-abbrev pub HandledAs : List Router → List Sent → List Arrival → List Journey → ℕ → Journey → {A : Type 0} → Result A Fault → Type 0
-HandledAs rs ms cs js q i (Ok _) =
-    (system_of rs ms cs (set js q i) ≡ step (Hop q) (system_of rs ms cs js)) × (path_at (set js q i) q ≡ path_at js q ++ goes_to (system_of rs ms cs js) q) ×
-    ((p : ℕ) → (p ≡ q → ⊥) → path_at (set js q i) p ≡ path_at js p)
-HandledAs rs ms cs js q i (Err f) = (f ≡ Memory) × (system_of rs ms cs (set js q i) ≡ system_of rs ms cs js) × ((p : ℕ) → path_at (set js q i) p ≡ path_at js p)
+-- wherever it is sent, it stays inside
+moved_inside : (n : ℕ) (r : Router) (x : system.Flight) → (model r).links.n ≡ n → node_in x < n → node_in (moved (λ u. model r) x) < n
+moved_inside n r system.NoPacket e h = h
+moved_inside n r (system.UnderWay u c p) e h = by (forward (model r) p) refl
+  where
+    by : (d : Decision) → forward (model r) p ≡ d → node_in (decided (model r) u c d) < n
+    by Deliver w = h
+    by (Send v q) w = omega (arith, ((matrix_lawful r.routes.costs).within (model r).me v (forward_sends (model r) p v q w).neighbour).1)
+    by (Drop k) w = h
+moved_inside n r (system.Delivered u c) e h = h
+moved_inside n r (system.Dropped u c k) e h = h
 
--- a packet that the router where it is has handled
-pub handled : (rs : List Router) (ms : List Sent) (cs : List Arrival) (js : List Journey) (q : ℕ) (r : Router) (j i : Journey) {A : Type 0} (o : Result A Fault) →
-    q < length js → j ≡ get_or js q j → place_of j < length rs → r ≡ get_or rs (place_of j) r → Moved (model r) j i o → HandledAs rs ms cs js q i o
-handled rs ms cs js q r j i (Ok x) l e h g m = (one_moves rs ms cs js q r j i l e h g m.0, one_path rs ms cs js q r j i l e h g m.1, set_others js q i l)
-handled rs ms cs js q r j i (Err f) l e h g m = (m.0, same_flights rs ms cs js q j i l e m.1, same_paths js q j i l e m.2)
-
-pub handled_inside : (n : ℕ) (r : Router) (j i : Journey) {A : Type 0} (o : Result A Fault) → (model r).links.n ≡ n → place_of j < n → Moved (model r) j i o → place_of i < n
-handled_inside n r j i (Ok x) e h m =
-    subst (λ k. k < n) (ap node_in (sym m.0) ∙ node_in_lem i) (moved_inside n r (flight_of j) e (subst (λ k. k < n) (sym (node_in_lem j)) h))
-handled_inside n r j i (Err f) e h m = subst (λ k. k < n) (sym (node_in_lem j) ∙ (ap node_in (sym m.1) ∙ node_in_lem i)) h
-
--- the same of a network in which only that packet is another
-pub hop_asked : (q : ℕ) (old new : Network) (i : Journey) {A : Type 0} (o : Result A Fault) →
-    system new ≡ system_of (vec_items old.routers) (vec_items old.said) (vec_items old.arrivals) (set (vec_items old.journeys) q i) →
-    ((p : ℕ) → path_of_packet new p ≡ path_at (set (vec_items old.journeys) q i) p) →
-    HandledAs (vec_items old.routers) (vec_items old.said) (vec_items old.arrivals) (vec_items old.journeys) q i o → HopAsked q old new o
-hop_asked q old new i (Ok x) e f h = record { is = e ∙ h.0; path = f q ∙ h.1; others = λ p w. f p ∙ h.2 p w }
-hop_asked q old new i (Err x) e f h = (h.0, record { same = e ∙ h.1; paths = λ p. f p ∙ h.2 p })
+pub hop_inside : (rs : List Router) (fs : List Flight) (q : ℕ) (r : Router) (f g : Flight) {A E : Type 0} (o : Result A E) → At rs fs q r f → RoutersInPlace rs → OnOk o (flight_of g ≡ moved (λ u. model r) (flight_of f)) → OnErr o (SameFlight f g) → node_in (flight_of g) < length rs
+hop_inside rs fs q r f g (Ok x) h p m s = subst (λ y. node_in y < length rs) (sym m) (moved_inside (length rs) r (flight_of f) (in_place rs (node_in (flight_of f)) r p h.inside h.router).1 h.inside)
+hop_inside rs fs q r f g (Err e) h p m s = subst (λ y. node_in y < length rs) (sym s.flight) h.inside

@@ -1,10 +1,11 @@
-pub mod Places
-pub mod Sets
-pub mod Inside
+pub mod Arriving
+pub mod Built
+pub mod Failing
 pub mod Hops
+pub mod Moving
+pub mod Placed
 pub mod Plays
 pub mod Replies
-pub mod Failing
-pub mod Arriving
-pub mod Untouched
 pub mod Sending
+pub mod Sets
+pub mod Untouched

@@ -1,18 +1,18 @@
--- Packets that are played to their end. Assumes nothing.
-use Rattle.std.proofs.Common.{◌≡◌, ℕ, suc, ◌<◌, true, false, eqb, Ok, Err, Result, sym, refl, ap, ◌∙◌, subst, arith}
-use Rattle.std.proofs.lemmas.Bool.{both_ways, cond-true, eq-eqb}
-use Rattle.theory.specs.Network.{without}
-use Rattle.links.specs.declared.fault.Fault.{Fault}
+-- Packets that are played to their end.
+use Rattle.std.proofs.Common.{◌≡◌, ◌≢◌, ℕ, suc, ◌<◌, true, false, eqb, sym, refl, ap, ◌∙◌, subst, arith}
+use Rattle.network.specs.Events.{Unchanged}
+use Rattle.network.specs.Model.{system}
+use Rattle.network.specs.Packets.{Apart, ArrivesAfter, ArrivesCalm, Hops, Moves}
+use Rattle.network.specs.declared.network.Network.{Network}
+use Rattle.protocol.proofs.Playing.{hop_last, played_calm, played_out}
+use Rattle.protocol.proofs.Sending.{forward_sends}
 use Rattle.protocol.specs.Delivery.{Deliverable}
 use Rattle.protocol.specs.Packet.{Decision, Deliver, Send, Drop, forward}
 use Rattle.protocol.specs.Playing.{hops, is_under_way, Brought}
 use Rattle.protocol.specs.Router as protocol
-use Rattle.protocol.specs.System.{System, Flight, NoPacket, UnderWay, Delivered, Dropped, decided, moved, step, run, Hop}
-use Rattle.protocol.proofs.Playing.{hop_last, played_out, played_calm}
-use Rattle.protocol.proofs.Sending.{forward_sends}
-use Rattle.network.specs.Model.{system}
-use Rattle.network.specs.Playing.{OtherPaths, Hopped, PlayAsked, Promised}
-use Rattle.network.specs.declared.network.Network.{Network}
+use Rattle.protocol.specs.System.{System, Flight, NoPacket, UnderWay, Delivered, Dropped, decided, moved, run, step, Hop}
+use Rattle.std.proofs.lemmas.Bool.{both_ways, cond-true, eq-eqb}
+use Rattle.theory.specs.Network.{without}
 
 -- how often a packet may still be handled
 abbrev pub left : Flight → ℕ
@@ -32,30 +32,47 @@ falls f (UnderWay u c p) e = by (forward (f u) p) refl
 falls f (Delivered u c) e = absurd (both_ways false refl e)
 falls f (Dropped u c k) e = absurd (both_ways false refl e)
 
-pub left_falls : (q : ℕ) (old new : Network) → Hopped q old new → true ≡ is_under_way ((system old).flights q) → left ((system new).flights q) < left ((system old).flights q)
+pub left_falls : (q : ℕ) (old new : Network) → Hops q old new → true ≡ is_under_way ((system old).flights q) → left ((system new).flights q) < left ((system old).flights q)
 left_falls q old new h e =
     let σ = system old in
     let w : (system new).flights q ≡ moved σ.routers (σ.flights q) = ap (λ (τ : System). τ.flights q) h.is ∙ cond-true (eqb q q) (moved σ.routers (σ.flights q)) (σ.flights q) (eq-eqb q q refl) in
     subst (λ x. left x < left (σ.flights q)) (sym w) (falls σ.routers (σ.flights q) (sym e))
 
--- so far it was moved some times
-abbrev pub SoFar : ℕ → (first now : Network) → Type 0
-SoFar q first now = (k : ℕ) × (system now ≡ run (hops q k) (system first)) × OtherPaths q first now
-
-pub none_yet : (q : ℕ) (net : Network) → SoFar q net net
+pub none_yet : (q : ℕ) (net : Network) → Moves q net net
 unfolding hops run
-none_yet q net = (0, refl, λ p h. refl)
+none_yet q net = record { hop_count = 0; is = refl; packets = refl; apart = record { nodes = refl; paths = λ p h. refl; over = λ k. refl } }
 
-pub once_more : (q : ℕ) (first now next : Network) → SoFar q first now → Hopped q now next → SoFar q first next
-once_more q first now next (k, e, o) h = (suc k, h.is ∙ (ap (step (Hop q)) e ∙ hop_last q k (system first)), λ p w. h.others p w ∙ o p w)
+pub apart_then : (q : ℕ) (first now next : Network) → Apart q first now → Apart q now next → Apart q first next
+apart_then q first now next a b = record { nodes = b.nodes ∙ a.nodes; paths = λ p w. b.paths p w ∙ a.paths p w; over = λ k. b.over k ∙ a.over k }
 
-pub promised : (q : ℕ) (old new : Network) {A : Type 0} (o : Result A Fault) → PlayAsked q old new o → Promised q old new o
-promised q old new (Ok x) (k, h) = (
-  λ z r σ F es e d u c ss D.
-      (k, h.is, subst (λ τ. is_under_way ((run (hops q k) τ).flights q) ≡ false → Deliverable (without r z) τ q d u c ss → Brought z r τ q d k ss) (sym e) (λ w E. played_out z r σ F es q d u c ss E k w) (ended) D),
-  λ z g C d u c ss D. subst (λ τ. (a : ℕ) × (τ.flights q ≡ Delivered d a)) (sym h.is) (played_calm z (system old) g C q d u c ss D k ended).0,
+pub once_more : (q : ℕ) (first now next : Network) → Moves q first now → Hops q now next → Moves q first next
+once_more q first now next m h =
+    record {
+      hop_count = suc m.hop_count;
+      is = h.is ∙ (ap (step (Hop q)) m.is ∙ hop_last q m.hop_count (system first));
+      packets = h.packets ∙ m.packets;
+      apart = apart_then q first now next m.apart h.apart;
+    }
+
+pub no_more : (q : ℕ) (first now next : Network) → Moves q first now → Unchanged now next → Moves q first next
+no_more q first now next m u =
+    record {
+      hop_count = m.hop_count;
+      is = u.is ∙ m.is;
+      packets = u.beside.packets ∙ m.packets;
+      apart = apart_then q first now next m.apart (record { nodes = u.beside.nodes; paths = λ p w. u.beside.paths p; over = u.over });
+    }
+
+ended : (q : ℕ) (old new : Network) (m : Moves q old new) → is_under_way ((system new).flights q) ≡ false → is_under_way ((run (hops q m.hop_count) (system old)).flights q) ≡ false
+ended q old new m e = ap (λ (τ : System). is_under_way (τ.flights q)) (sym m.is) ∙ e
+
+pub arrives_after : (q : ℕ) (old new : Network) → Moves q old new → is_under_way ((system new).flights q) ≡ false → ArrivesAfter q old new
+arrives_after q old new m e z r σ F es i d u c ss D = (
+  m.hop_count,
+  m.is,
+  subst (λ τ. is_under_way ((run (hops q m.hop_count) τ).flights q) ≡ false → Deliverable (without r z) τ q d u c ss → Brought z r τ q d m.hop_count ss) (sym i) (λ w E. played_out z r σ F es q d u c ss E m.hop_count w) (ended q old new m e) D,
 )
-  where
-    ended : is_under_way ((run (hops q k) (system old)).flights q) ≡ false
-    ended = ap (λ (τ : System). is_under_way (τ.flights q)) (sym h.is) ∙ h.ended
-promised q old new (Err f) h = h.0
+
+pub arrives_calm : (q : ℕ) (old new : Network) → Moves q old new → is_under_way ((system new).flights q) ≡ false → ArrivesCalm q old new
+arrives_calm q old new m e z g C d u c ss D =
+    subst (λ τ. (a : ℕ) × (τ.flights q ≡ Delivered d a)) (sym m.is) (played_calm z (system old) g C q d u c ss D m.hop_count (ended q old new m e)).0

@@ -1,5 +1,9 @@
-pub mod Placed
-pub mod Model
-pub mod Built
-pub mod Playing
+pub mod Arrival
+pub mod Errors
 pub mod Events
+pub mod Flight
+pub mod FlightState
+pub mod Hearing
+pub mod Model
+pub mod Packets
+pub mod Places

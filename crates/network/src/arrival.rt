@@ -1,6 +1,6 @@
-// How far a message is: it has not come yet; it has come, and may come again; or it is under way no more.
+/// How far a message is: it has not arrived yet; it has, and may again; or it is no longer under way.
 #[derive(Clone, Copy, PartialEq, Eq, Debug)]
-pub enum Arrival {
+pub(crate) enum Arrival {
     NotYet,
     Again,
     Over,

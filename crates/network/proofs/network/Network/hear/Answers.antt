@@ -1,34 +1,40 @@
-use Rattle.std.proofs.Common.{◌≡◌, vec_items, refl}
-use Rattle.links.specs.declared.fault.Fault.TheVariants.{NoSuchLink}
-use Rattle.messages.specs.Messages.{message_of}
-use Rattle.protocol.specs.Hearing.{hear}
-use Rattle.switchover.specs.Model.{model}
-use Rattle.network.proofs.Failing.{heard_outside}
-use Rattle.network.proofs.Replies.{asked, still_placed, hear_put, no_router}
+use Rattle.std.proofs.Common.{◌≤◌, length, get_or, set, vec_items, refl, ap, ◌∙◌, length-set, arith}
+use Rattle.network.proofs.Replies.{heard_outside, kept_heard, placed, told_heard}
 use Rattle.network.proofs.network.Network.hear.Goals as goal
+use Rattle.network.specs.Model.{system_of}
+use Rattle.router.specs.Model.{model}
 
-pub returns-in_err-ok_or-clause-value : goal.returns-in_err-ok_or-clause-value
-returns-in_err-ok_or-clause-value c =
-    let e = c.in_err-ok_or.ensures in
-    let m = rw e.ok_part at e.value in
-    let n : c.in_err-ok_or.field-0.0 ≡ NoSuchLink = cc in
-    let i = rw e.ok_part at c.get_mut.ensures.item in
-    heard_outside c.args.node.0 c.args.from.0 (message_of c.args.message) c.args.self.now _ c.from_residual.result (no_router (vec_items c.args.self.now.routers) c.args.node.0 i.3)
-    (rw n at c.from_residual.ensures.1) (record { is = refl; paths = λ p. refl; waiting = λ k. refl })
-
-pub invariant_of-self-2 : goal.invariant_of-self-2
-invariant_of-self-2 c =
+pub invariant_of-self : goal.invariant_of-self
+invariant_of-self c =
     let net = c.args.self.now in
-    let r = c.in_ok-ok_or.field-0.now in
-    let i = rw c.in_ok-ok_or.ensures.ok_part at c.get_mut.ensures.item in
-    let m = message_of c.args.message in
-    let p = still_placed (vec_items net.routers) (vec_items net.journeys) (vec_items net.said) (vec_items c.hear.new.said) c.args.node.0 r c.hear.new.self (hear (model r) c.args.from.0 m) c.hear.result i.3.0 i.1 (hear_put (model r) c.args.from.0 m) c.hear.ensures net.in_place net.in_reach in
-    record { in_place = p.0; in_reach = p.1.0 }
+    let r = c.in-Some.router.now in
+    let i = c.in-Some.ensures.item in
+    let p = placed (vec_items net.routers) (vec_items net.flights) c.index.result r c.hear.new.self i.3.0 i.1 (kept_heard c.args.from c.args.message (model r) (model c.hear.new.self) (vec_items net.said) (vec_items c.hear.new.said) c.hear.result c.hear.ensures)
+    (record { count = net.count; routers = net.routers_in_place; packets = net.packets_in_place }) in
+    record { count = p.count; routers_in_place = p.routers; packets_in_place = p.packets }
 
-pub returns-clause-value : goal.returns-clause-value
-returns-clause-value c =
+pub returns-in-Some-clause-goes : goal.returns-in-Some-clause-goes
+returns-in-Some-clause-goes c =
     let net = c.args.self.now in
-    let r = c.in_ok-ok_or.field-0.now in
-    let i = rw c.in_ok-ok_or.ensures.ok_part at c.get_mut.ensures.item in
-    let m = message_of c.args.message in
-    asked net _ c.args.node.0 r c.hear.new.self (vec_items c.hear.new.said) (λ s. hear s c.args.from.0 m) c.hear.result (record { paths = λ p. refl; waiting = λ k. refl }) refl i.3.0 i.1 c.hear.ensures
+    let r = c.in-Some.router.now in
+    let s = c.hear.new.self in
+    let i = c.in-Some.ensures.item in
+    let e = c.index.ensures in
+    told_heard c.args.node c.args.from c.args.message r s net _ c.hear.result
+    (record {
+      below = omega (arith, i.3.0);
+      at = i.1 ∙ ap (λ k. get_or (vec_items net.routers) k r) e;
+      is = ap (λ k. system_of (set (vec_items net.routers) k s) (vec_items c.hear.new.said) (vec_items net.arrivals) (vec_items net.flights)) e;
+      nodes = length-set (vec_items net.routers) c.index.result s;
+      arrivals = refl;
+      flights = refl;
+    }) c.hear.ensures
+
+pub returns-in-None-clause-goes : goal.returns-in-None-clause-goes
+returns-in-None-clause-goes c =
+    let net = c.args.self.now in
+    let i = c.in-None.ensures.item in
+    let beyond : length (vec_items net.routers) ≤ c.args.node = omega (arith, i.3) in (
+      record { is = refl; beside = record { nodes = refl; packets = refl; paths = λ p. refl }; over = λ k. refl },
+      heard_outside (vec_items net.routers) c.args.node c.args.from c.args.message beyond,
+    )

@@ -1,16 +1,12 @@
-use Rattle.std.proofs.Common.{◌≡◌, ◌≤◌, length, vec_items}
-use Rattle.links.specs.Link.{ends}
-use Rattle.links.specs.declared.fault.Fault.TheVariants.{NoSuchLink}
-use Rattle.network.proofs.Failing.{judged_outside}
-use Rattle.network.proofs.Replies.{no_router}
+use Rattle.std.proofs.Common.{◌≤◌, length, vec_items, refl, inl, inr}
+use Rattle.network.proofs.Replies.{heard_outside}
 use Rattle.network.proofs.network.Network.judge.Goals as goal
+use Rattle.std.proofs.lemmas.Bool.{both_ways, cases_lt}
+use Rattle.types.specs.declared.message.Message.TheVariants.{LinkDown}
 
-pub returns-in_err-ok_or : goal.returns-in_err-ok_or
-returns-in_err-ok_or c =
+pub returns-in-None : goal.returns-in-None
+returns-in-None c =
     let rs = vec_items c.args.self.now.routers in
-    let u = c.args.node.0 in
-    let e = c.in_err-ok_or.ensures in
-    let m = rw e.ok_part at e.value in
-    let n : c.in_err-ok_or.field-0.0 ≡ NoSuchLink = cc in
-    let l : length rs ≤ u = rw e.ok_part at c.router.ensures in
-    judged_outside u (ends c.args.link) _ c.from_residual.result (no_router rs u l) (rw n at c.from_residual.ensures.1)
+    let u = c.args.node in
+    let beyond : length rs ≤ u = elim (cases_lt u (length rs)) [ inl l ↦ absurd (both_ways _ refl (c.in-None.ensures.some.1 l)) | inr l ↦ l ] in
+    heard_outside rs u u (LinkDown c.args.link) beyond

@@ -1,22 +1,32 @@
-use Rattle.std.proofs.Common.{vec_items, refl}
-use Rattle.protocol.specs.Switching.{switch}
-use Rattle.switchover.specs.Model.{model}
-use Rattle.network.proofs.Replies.{asked, still_placed, switch_put, switch_asked}
+use Rattle.std.proofs.Common.{length, get_or, set, vec_items, refl, ap, ◌∙◌, length-set, arith}
+use Rattle.network.proofs.Replies.{kept_switched, placed, told_switched}
 use Rattle.network.proofs.network.Network.switch.Goals as goal
+use Rattle.network.specs.Model.{system_of}
+use Rattle.router.specs.Model.{model}
 
-pub invariant_of-self-2 : goal.invariant_of-self-2
-invariant_of-self-2 c =
+pub invariant_of-self : goal.invariant_of-self
+invariant_of-self c =
     let net = c.args.self.now in
     let r = c.in-Some.router.now in
     let i = c.in-Some.ensures.item in
-    let p = still_placed (vec_items net.routers) (vec_items net.journeys) (vec_items net.said) (vec_items c.switch.new.said) c.args.node.0 r c.switch.new.self (switch (model r) c.args.destination.0) c.switch.result i.3.0 i.1 (switch_put (model r) c.args.destination.0) c.switch.ensures net.in_place net.in_reach in
-    record { in_place = p.0; in_reach = p.1.0 }
+    let p = placed (vec_items net.routers) (vec_items net.flights) c.index.result r c.switch.new.self i.3.0 i.1 (kept_switched c.args.destination (model r) (model c.switch.new.self) (vec_items net.said) (vec_items c.switch.new.said) c.switch.result c.switch.ensures.ok c.switch.ensures.memory)
+    (record { count = net.count; routers = net.routers_in_place; packets = net.packets_in_place }) in
+    record { count = p.count; routers_in_place = p.routers; packets_in_place = p.packets }
 
-pub returns : goal.returns
-returns c =
+pub returns-in-Some : goal.returns-in-Some
+returns-in-Some c =
     let net = c.args.self.now in
     let r = c.in-Some.router.now in
+    let s = c.switch.new.self in
     let i = c.in-Some.ensures.item in
-    let d = c.args.destination.0 in
-    switch_asked c.args.node.0 d net _ c.switch.result
-    (asked net _ c.args.node.0 r c.switch.new.self (vec_items c.switch.new.said) (λ s. switch s d) c.switch.result (record { paths = λ p. refl; waiting = λ k. refl }) refl i.3.0 i.1 c.switch.ensures)
+    let e = c.index.ensures in
+    let p = told_switched c.args.node c.args.destination r s net _ c.switch.result c.switch.ensures.ok c.switch.ensures.memory
+    (record {
+      below = omega (arith, i.3.0);
+      at = i.1 ∙ ap (λ k. get_or (vec_items net.routers) k r) e;
+      is = ap (λ k. system_of (set (vec_items net.routers) k s) (vec_items c.switch.new.said) (vec_items net.arrivals) (vec_items net.flights)) e;
+      nodes = length-set (vec_items net.routers) c.index.result s;
+      arrivals = refl;
+      flights = refl;
+    }) in
+    record { ok = p.0; memory = p.1 }
