@@ -13,7 +13,7 @@ use Rattle.types.specs.declared.fault.ReadFault.TheVariants.{NodeOutOfRange}
 use Rattle.types.specs.declared.fault.Refusal.TheVariants.{NotNeighbour, SecondFailure}
 use Rattle.types.specs.declared.message.Sent.{Sent}
 use Rattle.wire.specs.Kinds.{kind_in}
-use Rattle.wire.specs.Lists.{list_in, Listing}
+use Rattle.wire.specs.Lists.{list_in}
 use Rattle.wire.specs.Messages.{message_bytes, message_in}
 use Rattle.wire.specs.Packets.{packet_bytes, packet_in}
 use Rattle.wire.specs.declared.error.ReadError.{ReadError}
@@ -124,8 +124,9 @@ start me from bytes = if from == me then router_at me bytes else Err (Refused No
 abbrev pub IsSettled : Router → Type 0
 IsSettled s = (d : ℕ) → may s d ≡ false
 
--- the router and the bytes before and after, by what comes of a frame: a refusal changes nothing, and where memory is wanting
--- nothing is written
-abbrev pub Serves : Result Served FrameError → (old new : Router) (before after : List ℕ) → {A : Type 0} → Result A FrameError → Type 0
+-- the router and the bytes before and after, by what comes of a frame: a refusal changes nothing, and where memory is
+-- wanting nothing is written
+abbrev pub Serves : Result Served FrameError → (old new : Router) (before after : List ℕ) →
+    {A : Type 0} → Result A FrameError → Type 0
 Serves served old new before after (Ok _) = IsOkAnd served (λ x. (new ≡ x.router) × (after ≡ before ++ x.written))
 Serves served old new before after (Err e) = (after ≡ before) × UnlessMemory e ((served ≡ Err e) × (new ≡ old))

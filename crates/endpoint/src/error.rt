@@ -8,16 +8,13 @@ use thiserror::Error;
 use types::{DropReason, ReadFault, Refusal};
 use wire::{LinksError, ReadError};
 
-/// Why nothing comes of a frame.
+/// Why nothing comes of a frame: its bytes are refused, the router refuses it, its packet is dropped, or memory is wanting.
 #[derive(Clone, Copy, PartialEq, Eq, Debug, Error)]
 pub enum FrameError {
-    /// Its bytes are refused.
     #[error("{0}")]
     Read(ReadFault),
-    /// The router refuses what it says.
     #[error("{0}")]
     Refused(Refusal),
-    /// The packet in it is dropped.
     #[error("{0}")]
     Dropped(DropReason),
     #[error("out of memory")]
@@ -25,7 +22,7 @@ pub enum FrameError {
 }
 
 impl FrameError {
-    /// The number by which users know it: 1 to 9, and none where memory is wanting.
+    /// The number by which users know it, from 1 to 9; none where memory is wanting.
     pub fn number(self) -> Option<u8>
         ensures { result ≡ frame_number self }
     {
@@ -51,8 +48,8 @@ impl From<LinksError> for FrameError {
 
     fn from(error: LinksError) -> FrameError {
         match error {
-            LinksError::Refused(error) => FrameError::from(error),
-            LinksError::Memory(error) => FrameError::from(error),
+            LinksError::Refused(error) => FrameError::Read(error.fault),
+            LinksError::Memory(error) => FrameError::Memory(error),
         }
     }
 }
@@ -63,7 +60,7 @@ impl From<RouterError> for FrameError {
     fn from(error: RouterError) -> FrameError {
         match error {
             RouterError::Refused(refusal) => FrameError::Refused(refusal),
-            RouterError::Memory(error) => FrameError::from(error),
+            RouterError::Memory(error) => FrameError::Memory(error),
         }
     }
 }

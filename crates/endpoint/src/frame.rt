@@ -13,8 +13,8 @@ use std::alloc::Global;
 use types::{NodeId, Packet, ReadFault, Refusal};
 use wire::{Frame, Kind, Origin, emit_packet_to, kind_of, parse_links, parse_packet};
 
-/// A frame comes to a router; what it hands on and says is put behind what is written already. Where memory is wanting
-/// nothing is written, and the router may have heard a message, and switched for some destinations.
+/// A frame comes to a router. What the router hands on and says is put behind what is written already. Where memory is
+/// wanting nothing is written, but the router may have heard a message, and switched for some destinations.
 pub fn serve(
     heap: Global,
     router: &mut Router,
@@ -25,9 +25,8 @@ pub fn serve(
         (model router.old) (model router.new) out.old.items out.new.items result }
 
     // After a list or a message it may switch for no destination.
-    ensures settled {
-        kind_in frame.entry.message.now ≢ Ok Kind.Packet → OnOk result (IsSettled (model router.new))
-    }
+    ensures settled { kind_in frame.entry.message.now ≢ Ok Kind.Packet →
+        OnOk result (IsSettled (model router.new)) }
 {
     let Frame { from, message } = frame;
     if !may_come(router, from) {
@@ -50,13 +49,10 @@ fn may_come(router: &Router, from: NodeId) -> bool
 
 /// The router at a node, by the first frame: a list of links, which only its own number may send.
 pub fn start(heap: Global, me: NodeId, frame: Frame) -> Result<Router, FrameError>
-    ensures ok {
-        IfOk result (λ r. start me frame.entry.from frame.entry.message.now ≡ Ok (model r))
-    }
-    ensures refused {
-        let started = start me frame.entry.from frame.entry.message.now in
-        IfErr result (λ e. UnlessMemory e (started ≡ Err e))
-    }
+    ensures ok { IfOk result (λ r.
+        start me frame.entry.from frame.entry.message.now ≡ Ok (model r)) }
+    ensures refused { IfErr result (λ e. UnlessMemory e
+        (start me frame.entry.from frame.entry.message.now ≡ Err e)) }
 {
     let Frame { from, message } = frame;
     if from != me {
@@ -107,11 +103,9 @@ fn serve_packet(
 
 /// A packet has come to its destination, or goes on to a neighbour, or is dropped.
 fn hand_on(router: &Router, packet: Packet, out: &mut Vec<u8>) -> Result<(), FrameError>
-    ensures {
-        let p = packet_of packet in
+    ensures { let p = packet_of packet in
         let served = by_decision (model router.now) p (forward (model router.now) p) in
-        Serves served (model router.now) (model router.now) out.old.items out.new.items result
-    }
+        Serves served (model router.now) (model router.now) out.old.items out.new.items result }
 {
     let bare = Packet::without_segments(packet.destination(), packet.hop_limit());
     match router.forward(packet) {

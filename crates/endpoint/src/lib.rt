@@ -7,3 +7,6 @@ mod message;
 
 pub use error::FrameError;
 pub use frame::{serve, start};
+
+#[cfg(test)]
+mod tests;

@@ -30,11 +30,9 @@ pub(crate) fn serve_message(
 
 /// It switches for each destination that it may, in rising order.
 fn settle(router: &mut Router, said: &mut Vec<Sent>) -> Result<(), AllocError>
-    ensures switches {
-        let before = saying (model router.old) said.old.items in
+    ensures switches { let before = saying (model router.old) said.old.items in
         let after = saying (model router.new) said.new.items in
-        OnOk result (after ≡ switch_below before.router.links.n before)
-    }
+        OnOk result (after ≡ switch_below before.router.links.n before) }
     ensures settled { OnOk result (IsSettled (model router.new)) }
 {
     for destination in NodeId::all(router.nodes()) {
