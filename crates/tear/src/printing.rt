@@ -81,7 +81,7 @@ impl fmt::Display for Waits<'_> {
         let Waits { router, d } = *self;
         let u = router.node();
         write!(f, "over {u} {d}: waits for")?;
-        for v in (0..router.nodes()).map(NodeId) {
+        for v in NodeId::all(router.nodes()) {
             if router.waits_for(d, v) {
                 write!(f, " {v}")?;
             }
@@ -131,7 +131,7 @@ pub struct Routers<'a>(pub &'a Network);
 
 impl fmt::Display for Routers<'_> {
     fn fmt<W: fmt::Write>(&self, f: &mut fmt::Formatter<W>) -> fmt::Result {
-        for u in (0..self.0.nodes()).map(NodeId) {
+        for u in NodeId::all(self.0.nodes()) {
             if let Some(router) = self.0.router(u) {
                 let table = Table(router);
                 writeln!(f, "router {u}: down {}; table{table}", Failure(router))?;
@@ -165,8 +165,7 @@ struct SwitchedFor<'a>(&'a Router);
 impl fmt::Display for SwitchedFor<'_> {
     fn fmt<W: fmt::Write>(&self, f: &mut fmt::Formatter<W>) -> fmt::Result {
         let SwitchedFor(router) = *self;
-        let mut switched = (0..router.nodes())
-            .map(NodeId)
+        let mut switched = NodeId::all(router.nodes())
             .filter(|d| router.has_switched(*d))
             .peekable();
         if switched.peek().is_none() {
@@ -208,7 +207,7 @@ struct Table<'a>(&'a Router);
 
 impl fmt::Display for Table<'_> {
     fn fmt<W: fmt::Write>(&self, f: &mut fmt::Formatter<W>) -> fmt::Result {
-        for d in (0..self.0.nodes()).map(NodeId) {
+        for d in NodeId::all(self.0.nodes()) {
             match self.0.next_hop(d) {
                 Some(hop) => write!(f, " {hop}")?,
                 None => f.write_str(" -")?,

@@ -145,8 +145,8 @@ impl Stage {
     // Has any router switched?
     fn over_round(&mut self) -> Result<bool, BadLine> {
         let mut any = false;
-        for u in (0..self.nodes()).map(NodeId) {
-            for d in (0..self.nodes()).map(NodeId) {
+        for u in NodeId::all(self.nodes()) {
+            for d in NodeId::all(self.nodes()) {
                 if self.may_switch(u, d) {
                     self.network.switch(u, d)?;
                     any = true;
