@@ -76,7 +76,7 @@ impl<'a> Protected<'a> {
         }
     }
 
-    /// The repair for d, to which s sends over the link: nothing is worked out for other destinations.
+    /// The repair for d, to which s sends over the link. For other destinations nothing is computed.
     fn repair(&self, d: NodeId) -> Option<Repair>
         requires node { d < (link_network self.now).n }
         requires sent { sends (link_network self.now) self.now.s self.now.f d ≡ true }
@@ -113,8 +113,8 @@ impl<'a> PostConvergence<'a> {
     ghost use Rattle.repairs.specs.Ahead.{Ahead};
     ghost use Rattle.repairs.specs.Protected.{link_network, network_without};
 
-    /// The last link of the path from w whose first node s reaches by another neighbour than f. Such nodes come first, so it
-    /// is the link to the first node that s reaches over the protected link.
+    /// The last link of the path from w whose first node s reaches by another neighbour than f. Such nodes come first, so
+    /// it is the link to the first node that s reaches over the protected link.
     fn repair_from(&self, w: NodeId) -> Option<Repair>
         requires node { w < (link_network self.now.link.now).n }
         requires ahead { let l = self.now.link.now in Ahead (network_without l) l.s self.now.d w }

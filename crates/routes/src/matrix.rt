@@ -1,4 +1,4 @@
-ghost use Rattle.std.specs.Prelude.{◌≡◌, ℕ, ◌+◌, ◌*◌, ◌<◌, ◌≤◌, ◌&&◌, ◌⊎◌, ◌↔◌, IsTrue, MatchOption, true, length, nat_lt, slice_index};
+ghost use Rattle.std.specs.Prelude.{◌≡◌, ℕ, ◌+◌, ◌*◌, ◌<◌, ◌≤◌, ◌&&◌, true, nat_lt, slice_index};
 ghost use Rattle.theory.specs.Network.{Lawful, Limited};
 ghost use Rattle.types.specs.NodeSets.{has};
 ghost use Rattle.links.specs.Links.{network_of, rising, IsNodeCount};
@@ -10,7 +10,7 @@ use crate::view::View;
 use links::Topology;
 use types::{Change, Link, MAX_NODES, NodeId, NodeSet};
 
-/// What the links of a network cost, a row for each node, and the neighbours of each node.
+/// What the links of a network cost, in a table with a row for each node, and the neighbours of each node.
 #[derive(Drop)]
 pub struct CostMatrix {
     nodes: u8,
@@ -43,7 +43,7 @@ impl CostMatrix {
         CostMatrix::new(nodes, costs_of(nodes, topology.links()))
     }
 
-    /// A network of so many nodes by its costs.
+    /// The matrix of a table of costs, 0 where there is no link.
     pub(crate) fn new(nodes: u8, costs: [u16; CELLS]) -> CostMatrix
         requires few { IsNodeCount nodes }
         requires lawful { Lawful (network_in nodes costs) }
@@ -83,7 +83,7 @@ impl CostMatrix {
         View::new(self, &change).to_matrix()
     }
 
-    /// The distance of each node from d, or `NEVER`, into `dist`.
+    /// Writes the distance of each node from d, or `NEVER`, into `dist`.
     pub fn distances(&self, d: NodeId, dist: &mut [u32])
         requires node { d < (matrix_network self.now).n }
         requires size { length dist.old ≡ (matrix_network self.now).n }
@@ -134,7 +134,7 @@ impl CostMatrix {
     }
 }
 
-/// The costs of a list of links, from the last one to the first.
+/// The table of a list of links, written from the last link to the first.
 fn costs_of(nodes: u8, links: &[Link]) -> [u16; CELLS]
     requires { (nodes ≤ 64) × (rising nodes links.now ≡ true) }
     ensures { network_in nodes result ≡ network_of nodes links.now }
@@ -160,7 +160,6 @@ fn neighbours_by(nodes: u8, costs: &[u16; CELLS]) -> [NodeSet; MAX_NODES]
     requires { nodes ≤ 64 }
     ensures { LinkedEach nodes costs.now result }
 {
-    // a loop: of a closure that asks for a node below 64 a proof knows nothing
     let mut sets = [NodeSet::empty(); MAX_NODES];
     for a in 0..nodes {
         sets[a as usize] = linked(nodes, costs, NodeId(a));

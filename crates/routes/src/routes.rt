@@ -19,8 +19,8 @@ pub struct Routes {
     ghost next: { HopRows (matrix_network costs) costs.nodes hops },
 }
 
-/// The nodes that send packets for a destination: those whose link to the next hop a change takes away, and the others by
-/// their next hop.
+/// The nodes that send packets for a destination: those that a change cuts off from their next hop, and the others by
+/// next hop.
 #[derive(Clone, Copy)]
 struct Senders {
     cut: NodeSet,
@@ -28,7 +28,7 @@ struct Senders {
 }
 
 impl Routes {
-    ghost use Rattle.std.specs.Prelude.{◌≡◌, ℕ, ◌+◌, ◌*◌, ◌<◌, ◌≤◌, ◌⊎◌, ◌++◌, length, slice_index, IfOk, IfSome, None};
+    ghost use Rattle.std.specs.Prelude.{◌≡◌, ℕ, ◌+◌, ◌*◌, ◌<◌, ◌≤◌, ◌⊎◌, ◌++◌, length, IfOk, IfSome, None};
     ghost use Rattle.theory.specs.Distance.{distance};
     ghost use Rattle.theory.specs.NextHop.{next_hop, path, uses};
     ghost use Rattle.types.specs.Change.{changed};
@@ -106,7 +106,7 @@ impl Routes {
         self.follow(d, a, Vec::new(alloc))
     }
 
-    /// They are put behind the nodes that are there. Each step leads nearer to d.
+    /// Puts them behind the nodes that are there. Each step leads nearer to d.
     fn follow(
         &self,
         d: NodeId,
@@ -133,7 +133,7 @@ impl Routes {
         }
     }
 
-    /// The routes of the network that a change leads to. Only what the change touches is worked out anew.
+    /// The routes of the network that a change leads to. Only what the change touches is computed anew.
     pub fn changed(&self, change: Change) -> Routes
         ensures { routes_network result ≡ changed change (routes_network self.now) }
     {
@@ -148,7 +148,7 @@ impl Routes {
         }
     }
 
-    /// The distance of each node from d after a change, or `NEVER`, into `dist`.
+    /// Writes the distance of each node from d after a change, or `NEVER`, into `dist`.
     pub fn distances_after(&self, change: Change, d: NodeId, dist: &mut [u32])
         requires node { d < (routes_network self.now).n }
         requires size { length dist.old ≡ (routes_network self.now).n }
@@ -176,7 +176,7 @@ impl Routes {
         View::new(&self.costs, change)
     }
 
-    /// Row by row the distances of each node from d after a change, and its next hops for d.
+    /// Fills row d of both tables with the distance of each node from d after a change and its next hop for d.
     fn fill_rows(&self, change: &Change, dist: &mut [u32], hops: &mut [Option<NodeId>])
         requires { (length dist.old ≡ CELLS) × (length hops.old ≡ CELLS) }
         ensures near { let z = routes_network self.now in
@@ -191,8 +191,7 @@ impl Routes {
         }
     }
 
-    /// The distances of each node from d after a change, and the next hops for d: anew only those of the nodes that the
-    /// change touches.
+    /// Fills a row of each: copies what was there before the change, and computes anew what the change touches.
     fn fill_row(&self, change: &Change, d: NodeId, dist: &mut [u32], hops: &mut [Option<NodeId>])
         requires node { d < (routes_network self.now).n }
         requires dist { length dist.old ≡ (routes_network self.now).n }
@@ -210,8 +209,8 @@ impl Routes {
         }
     }
 
-    /// The distances from d after a change that touches just these nodes: each begins with the least over its links to
-    /// nodes that it doesn't touch, and then they are settled.
+    /// Writes the distances from d after a change that touches just these nodes: each begins with the least over its links
+    /// to nodes that it doesn't touch, and then they are settled.
     fn settle(&self, change: &Change, d: NodeId, touched: NodeSet, dist: &mut [u32])
         requires node { d < (routes_network self.now).n }
         requires size { length dist.old ≡ (routes_network self.now).n }
@@ -228,7 +227,7 @@ impl Routes {
         view.settle(touched, dist);
     }
 
-    /// The nodes whose path to d breaks: those whose link to the next hop is gone, and those that send to one of these.
+    /// The nodes whose path to d breaks: those that are cut off from their next hop, and those that send to one of these.
     fn touched(&self, change: &Change, d: NodeId) -> NodeSet
         requires { d < (routes_network self.now).n }
         ensures { let z = routes_network self.now in Touched z (changed change.now z) d result }

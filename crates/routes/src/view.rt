@@ -76,7 +76,7 @@ impl<'a> View<'a> {
         }
     }
 
-    /// The network with costs of its own.
+    /// The costs of the network after the change, in a matrix of its own.
     pub(crate) fn to_matrix(&self) -> CostMatrix
         ensures { matrix_network result ≡ view_network self.now }
     {
@@ -88,7 +88,7 @@ impl<'a> View<'a> {
         CostMatrix::new(self.nodes(), costs)
     }
 
-    /// What the links of a node cost, 0 where there is none.
+    /// Writes what the links of a node cost, 0 where there is none.
     fn fill_costs(&self, a: NodeId, row: &mut [u16])
         requires { (a < (view_network self.now).n) × (length row.old ≡ (view_network self.now).n) }
         ensures { CostRow (view_network self.now) a row.new }
@@ -100,7 +100,7 @@ impl<'a> View<'a> {
         }
     }
 
-    /// Row by row the distances of each node from d, and its next hops for d.
+    /// Fills row d of both tables with the distance of each node from d and its next hop for d.
     pub(crate) fn fill_rows(&self, dist: &mut [u32], hops: &mut [Option<NodeId>])
         requires { (length dist.old ≡ CELLS) × (length hops.old ≡ CELLS) }
         ensures near { DistanceRows (view_network self.now) (view_network self.now).n dist.new }
@@ -115,7 +115,7 @@ impl<'a> View<'a> {
         }
     }
 
-    /// The distance of each node from d, or `NEVER`, into `dist`.
+    /// Writes the distance of each node from d, or `NEVER`, into `dist`.
     pub(crate) fn distances(&self, d: NodeId, dist: &mut [u32])
         requires { (d < (view_network self.now).n) × (length dist.old ≡ (view_network self.now).n) }
         ensures { Filled (view_network self.now) d dist.new }
@@ -125,7 +125,7 @@ impl<'a> View<'a> {
         self.settle(NodeSet::below(self.nodes()), dist);
     }
 
-    /// Dijkstra's algorithm: the nearest unsettled node is settled, and its links to the others are relaxed.
+    /// Dijkstra's algorithm: settles the nearest unsettled node, and relaxes its links to the others, until all are settled.
     pub(crate) fn settle(&self, unsettled: NodeSet, dist: &mut [u32])
         requires within { AllBelow (view_network self.now).n unsettled }
         requires size { length dist.old ≡ (view_network self.now).n }
@@ -139,7 +139,7 @@ impl<'a> View<'a> {
         }
     }
 
-    /// The links of a node to others: none of those is farther than it and the link's cost.
+    /// Relaxes the links of a node to others: none of those is farther than by that link.
     fn relax(&self, u: NodeId, others: NodeSet, dist: &mut [u32])
         requires node { u < (view_network self.now).n }
         requires size { length dist.old ≡ (view_network self.now).n }
@@ -169,7 +169,7 @@ impl<'a> View<'a> {
         least
     }
 
-    /// The next hop of each node for d, where `dist` has the distances to d.
+    /// Writes the next hop of each node for d, where `dist` has the distances to d.
     fn next_hops(&self, dist: &[u32], hops: &mut [Option<NodeId>])
         requires dist { length dist.now ≡ (view_network self.now).n }
         requires hops { length hops.old ≡ (view_network self.now).n }

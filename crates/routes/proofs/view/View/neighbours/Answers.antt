@@ -1,4 +1,4 @@
-use Rattle.std.proofs.Common.{◌∙◌, ◌&&◌, not, ap, ap₂, ltb}
+use Rattle.std.proofs.Common.{◌∙◌, ◌&&◌, not, ap}
 use Rattle.types.specs.NodeSets.{has}
 use Rattle.routes.specs.Matrix.{matrix_network}
 use Rattle.routes.proofs.Changes.{links_left}
