@@ -29,15 +29,18 @@ follows_parts n p l t =
       after = i.1;
     }
 
-pub rising_split : (n : ℕ) (p l : Link) (ls : List Link) → rising_from n p (l ∷ ls) ≡ true → (follows n p l ≡ true) × (rising_from n l ls ≡ true)
+pub rising_split : (n : ℕ) (p l : Link) (ls : List Link) → rising_from n p (l ∷ ls) ≡ true →
+    (follows n p l ≡ true) × (rising_from n l ls ≡ true)
 unfolding rising_from
 rising_split n p l ls t = and_parts (follows n p l) (rising_from n l ls) t
 
-pub rising_parts : (n : ℕ) (p l : Link) (ls : List Link) → rising_from n p (l ∷ ls) ≡ true → Follows n p l × (rising_from n l ls ≡ true)
+pub rising_parts : (n : ℕ) (p l : Link) (ls : List Link) → rising_from n p (l ∷ ls) ≡ true →
+    Follows n p l × (rising_from n l ls ≡ true)
 rising_parts n p l ls t = let h = rising_split n p l ls t in (follows_parts n p l h.0, h.1)
 
 -- there are fewer links than pairs of nodes
-pub rising_few : (n : ℕ) (p : Link) (ls : List Link) → n ≤ 64 → p.b < 64 → p.a * 64 + p.b < 4096 → rising_from n p ls ≡ true → p.a * 64 + p.b + length ls < 4096
+pub rising_few : (n : ℕ) (p : Link) (ls : List Link) → n ≤ 64 → p.b < 64 → p.a * 64 + p.b < 4096 →
+    rising_from n p ls ≡ true → p.a * 64 + p.b + length ls < 4096
 rising_few n p [] h k j t = omega arith
 rising_few n p (l ∷ ls) h k j t =
     let s = rising_parts n p l ls t in
@@ -45,7 +48,9 @@ rising_few n p (l ∷ ls) h k j t =
     let i = rising_few n l ls h (omega (arith, f.within)) (omega (arith, f.within, f.order)) s.1 in
     elim (or_cases (ltb p.a l.a) (eqb p.a l.a && ltb p.b l.b) f.after) [
       | inl q ↦ omega (arith, ltb-true p.a l.a q)
-      | inr q ↦ let e = and_parts (eqb p.a l.a) (ltb p.b l.b) q in omega (arith, eqb-true p.a l.a e.0, ltb-true p.b l.b e.1)
+      | inr q ↦
+          let e = and_parts (eqb p.a l.a) (ltb p.b l.b) q in
+          omega (arith, eqb-true p.a l.a e.0, ltb-true p.b l.b e.1)
     ]
 
 -- the cost is that of the first link that joins the two
@@ -53,7 +58,8 @@ pub cost_here : (l : Link) (ls : List Link) (x y : ℕ) → joins (ends_of l) x 
 unfolding cost_in
 cost_here l ls x y t = cond-true (joins (ends_of l) x y) l.cost (cost_in ls x y) t
 
-pub cost_there : (l : Link) (ls : List Link) (x y : ℕ) → joins (ends_of l) x y ≡ false → cost_in (l ∷ ls) x y ≡ cost_in ls x y
+pub cost_there : (l : Link) (ls : List Link) (x y : ℕ) → joins (ends_of l) x y ≡ false →
+    cost_in (l ∷ ls) x y ≡ cost_in ls x y
 unfolding cost_in
 cost_there l ls x y t = cond-false (joins (ends_of l) x y) l.cost (cost_in ls x y) t
 
@@ -75,10 +81,19 @@ pub lawful : (n : ℕ) (ls : List Link) → rising n ls ≡ true → Lawful (net
 lawful n ls t = record {
   symmetric = cost_symmetric ls;
   loopless = λ a. cost_each (λ c. c ≡ 0) n start ls a a t refl
-      (λ q l f e. elim (joins_ends (ends_of l) a a e) [ inl h ↦ absurd (omega (arith, h.0, h.1, f.order)) | inr h ↦ absurd (omega (arith, h.0, h.1, f.order)) ]);
+      (λ q l f e. elim (joins_ends (ends_of l) a a e) [
+        | inl h ↦ absurd (omega (arith, h.0, h.1, f.order))
+        | inr h ↦ absurd (omega (arith, h.0, h.1, f.order))
+      ]);
   within = λ a b. cost_each (λ c. 0 < c → (a < n) × (b < n)) n start ls a b t (λ h. absurd (omega arith))
-      (λ q l f e _. elim (joins_ends (ends_of l) a b e) [ inl h ↦ (omega (arith, h.0, f.order, f.within), omega (arith, h.1, f.within)) | inr h ↦ (omega (arith, h.0, f.within), omega (arith, h.1, f.order, f.within)) ]);
+      (λ q l f e _. elim (joins_ends (ends_of l) a b e) [
+        | inl h ↦ (omega (arith, h.0, f.order, f.within), omega (arith, h.1, f.within))
+        | inr h ↦ (omega (arith, h.0, f.within), omega (arith, h.1, f.order, f.within))
+      ]);
 }
 
 pub limited : (n : ℕ) (ls : List Link) → n ≤ 64 → rising n ls ≡ true → Limited (network_of n ls)
-limited n ls h t = record { few = h; light = λ a b. cost_each (λ c. c ≤ 65535) n start ls a b t (omega arith) (λ q l f e. f.light) }
+limited n ls h t = record {
+  few = h;
+  light = λ a b. cost_each (λ c. c ≤ 65535) n start ls a b t (omega arith) (λ q l f e. f.light);
+}

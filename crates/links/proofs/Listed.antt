@@ -1,5 +1,4 @@
 -- In a rising list no link hides another.
--- p comes before l, by numbers
 use Rattle.std.proofs.Common.{◌≡◌, ℕ, zero, suc, ◌<◌, true, false, ◌&&◌, eqb, ltb, ◌⊎◌, List, [], ◌∷◌, length, get_or, refl, ◌∙◌, inl, inr, arith}
 use Rattle.std.proofs.lemmas.Bool.{ltb-true, eqb-true, eq-eqb, and_parts, cases_Bool, and_from, or_cases, or_left}
 use Rattle.types.specs.Link.{ends_of}
@@ -9,6 +8,7 @@ use Rattle.theory.specs.Network.{joins}
 use Rattle.theory.proofs.Joins.{joins_ends}
 use Rattle.types.specs.declared.link.Link.{Link}
 
+-- p comes before l, by numbers
 abbrev Before : Link → Link → Type 0
 Before p l = (p.a < l.a) ⊎ ((p.a ≡ l.a) × (p.b < l.b))
 
@@ -29,9 +29,12 @@ record Later (p l : Link) : Type 0 where
   order : l.a < l.b
   after : Before p l
 
-later : (n : ℕ) (p : Link) (ls : List Link) → rising_from n p ls ≡ true → (i : ℕ) → i < length ls → Later p (get_or ls i start)
+later : (n : ℕ) (p : Link) (ls : List Link) → rising_from n p ls ≡ true → (i : ℕ) → i < length ls →
+    Later p (get_or ls i start)
 later n p [] t i h = absurd (omega arith)
-later n p (l ∷ ls) t zero h = let f = (rising_parts n p l ls t).0 in record { order = f.order; after = before p l f.after }
+later n p (l ∷ ls) t zero h =
+    let f = (rising_parts n p l ls t).0 in
+    record { order = f.order; after = before p l f.after }
 later n p (l ∷ ls) t (suc i) h =
     let s = rising_parts n p l ls t in
     let k = later n l ls s.1 i (omega arith) in

@@ -12,7 +12,8 @@ IsNodeCount n = (0 < n) × (n ≤ 64)
 abbrev pub precedes : Link → Link → Bool
 precedes p l = nat_lt p.a l.a || (p.a == l.a && nat_lt p.b l.b)
 
--- l may follow p in a network of n nodes: the lower node comes first, both are below n, and the cost is from 1 to 65,535
+-- l may follow p in a network of n nodes: its lower node comes first, both are below n, its cost is from 1 to 65,535, and p
+-- comes before it
 abbrev pub follows : ℕ → Link → Link → Bool
 follows n p l = nat_lt l.a l.b && nat_lt l.b n && nat_lt 0 l.cost && nat_le l.cost 65535 && precedes p l
 

@@ -1,5 +1,5 @@
 -- The network that a topology is.
-use Rattle.std.specs.Prelude.{ℕ, List, vec_items}
+use Rattle.std.specs.Prelude.{List, vec_items}
 use Rattle.theory.specs.Network.{Network}
 use Rattle.links.specs.Links.{network_of}
 use Rattle.types.specs.declared.link.Link.{Link}

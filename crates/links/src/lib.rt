@@ -1,4 +1,4 @@
-//! The lawful list of links of a network.
+//! The topology of a network, by its lawful list of links.
 #![tactic(auto)]
 
 pub mod topology;

@@ -18,7 +18,7 @@ impl Topology {
     ghost use Rattle.links.specs.Links.{network_of, rising, IsNodeCount, Listed};
     ghost use Rattle.links.specs.Topology.{links_of, network};
 
-    /// A network of so many nodes and these links.
+    /// Returns the network of `nodes` nodes and these links.
     pub fn new(nodes: u8, links: Vec<Link>) -> Topology
         requires few { IsNodeCount nodes }
         requires ordered { rising nodes links.items ≡ true }
@@ -28,7 +28,7 @@ impl Topology {
         Topology { nodes, links }
     }
 
-    /// How many nodes there are: 1 to 64.
+    /// Returns how many nodes there are: 1 to 64.
     pub fn nodes(&self) -> u8
         ensures value { result ≡ (network self.now).n }
         ensures bounds { IsNodeCount result }
@@ -36,7 +36,7 @@ impl Topology {
         self.nodes
     }
 
-    /// The links in rising order.
+    /// Returns the links in rising order.
     pub fn links(&self) -> &[Link]
         ensures value { result.now ≡ links_of self.now }
         ensures ordered { rising (network self.now).n result.now ≡ true }

@@ -1,4 +1,4 @@
--- Along the path that is left, the nodes that the end reaches by another neighbour come first.
+-- Along the post-convergence path, the nodes that the end reaches by another neighbour come first.
 use Rattle.std.proofs.Common.{◌≡◌, ℕ, ◌+◌, true, false, cond, Some, None, Option, sym, refl, ap, ◌∙◌, inl, inr, arith}
 use Rattle.std.proofs.lemmas.Bool.{both_ways, cases_Bool, or_parts, cond-true, cond-false}
 use Rattle.theory.specs.Network.{Network, Lawful, LinkId, joins, without}
@@ -23,7 +23,7 @@ module _ (z : Network) (g : Lawful z) (s f d : ℕ) where
   abbrev y : Network
   y = without r z
 
-  laws : Lawful y
+  pub laws : Lawful y
   laws = lawful_without r z g
 
   pub on_first : Ahead y s d s
@@ -114,7 +114,7 @@ module _ (z : Network) (g : Lawful z) (s f d : ℕ) where
         let le = distance_over y laws d s e ke.0 (omega (arith, ne.near.link)) ke.1 in
         let ee : le.0 ≡ ox.a + ox.b = same_some (distance y d s) le.0 (ox.a + ox.b) le.1 ox.whole in
         let near_e : AsNear y d s e = record { rest = ke.0; link = omega (arith, ne.near.link); there = ke.1; here = ox.whole ∙ ap Some (omega (arith, ke.2, le.2)) } in
-        -- w, the first node of the path that is left, is as near to q
+        -- w, the first node of the post-convergence path, is as near to q
         let nw = next_hop_is y d s o.w o.first in
         let cw : y.cost s o.w ≡ z.cost s o.w = cost_left r z s o.w (link_left_lem r z s o.w nw.near.link) in
         let w0 = not_nearer z g r q o.w o.on o.from_w in

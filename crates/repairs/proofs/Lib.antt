@@ -1,4 +1,3 @@
 pub mod Right
 pub mod Found
-pub mod LeftLawful
 pub mod Along

@@ -1,4 +1,4 @@
--- What is laid up is right.
+-- The entries are right.
 use Rattle.std.proofs.Common.{◌≡◌, ℕ, true, ◌&&◌, eqb, Some, None, Option, sym, refl, ap, ◌∙◌, inl, inr, arith}
 use Rattle.std.proofs.lemmas.Bool.{eq-eqb, cases_Bool, and_from, or_left, cond-true, cond-false}
 use Rattle.theory.specs.Network.{joins, without, Network, Lawful, LinkId}
@@ -10,10 +10,10 @@ use Rattle.theory.proofs.NextHops.{same_eq}
 use Rattle.theory.proofs.Repairs.{some_none, serves, same_path_repaired, no_repair}
 use Rattle.repairs.specs.Entries.{meaning}
 use Rattle.repairs.specs.Serving.{Mends, Right}
-use Rattle.repairs.specs.declared.entry.Entry.{Entry}
-use Rattle.repairs.specs.declared.entry.Entry.TheVariants as entries
+use Rattle.repairs.specs.declared.repair.Entry.{Entry}
+use Rattle.repairs.specs.declared.repair.Entry.TheVariants as entries
 
--- the repair that is laid up, if any, and a number for each case
+-- the repair, if any, and a number for each case
 found : Laid → Option Repair
 found theory.Unused = None
 found theory.Apart = None
@@ -45,7 +45,7 @@ own_link_lem s f = or_left (eqb s s && eqb f f) (eqb s f && eqb f s) (and_from (
 abbrev own_link : ℕ → ℕ → LinkId
 own_link s f = record { a = s; b = f }
 
--- where it sends over the link, the repair is laid up, and only there
+-- where it sends over the link, there is the repair, and only there
 laid_sent : (z : Network) (s f d : ℕ) (x : Laid) → x ≡ laid z s f d → sends z s f d ≡ true → x ≡ laid_by (repair z (own_link s f) s d)
 laid_sent z s f d x e t = e ∙ cond-true (sends z s f d) (laid_by (repair z (own_link s f) s d)) theory.Unused t
 

@@ -1,4 +1,4 @@
--- Nodes along the path that is left from s to d.
+-- Nodes along the post-convergence path from s to d, which is the path in y.
 use Rattle.std.specs.Prelude.{◌≡◌, ℕ, ◌+◌, Some}
 use Rattle.theory.specs.Network.{Network}
 use Rattle.theory.specs.Distance.{distance}

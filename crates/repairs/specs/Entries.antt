@@ -1,7 +1,7 @@
 -- What an entry says, in the theory's words.
 use Rattle.theory.specs.Repair as theory
-use Rattle.repairs.specs.declared.entry.Entry.{Entry}
-use Rattle.repairs.specs.declared.entry.Entry.TheVariants.{Unused, Apart, Via}
+use Rattle.repairs.specs.declared.repair.Entry.{Entry}
+use Rattle.repairs.specs.declared.repair.Entry.TheVariants.{Unused, Apart, Via}
 
 abbrev pub meaning : Entry → theory.Laid
 meaning Unused = theory.Unused

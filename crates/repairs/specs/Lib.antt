@@ -1,5 +1,11 @@
 pub mod Ahead
 pub mod Entries
-pub mod Link
+pub mod Protected
 pub mod Serving
 pub mod Table
+pub use Rattle.theory.specs.Distance
+pub use Rattle.theory.specs.Network
+pub use Rattle.theory.specs.NextHop
+pub use Rattle.theory.specs.Repair
+pub use Rattle.theory.specs.RepairLaws
+pub use Rattle.routes.specs.Routes

@@ -1,10 +1,8 @@
-//! Repairs, precomputed for each link of a node and each destination.
+//! The repairs of a node's links, precomputed for each destination.
 #![tactic(auto)]
 
-pub mod entry;
-pub mod laying;
+pub mod precompute;
 pub mod repair;
 
-pub use entry::Entry;
-pub use laying::{precompute_link, precompute_row};
-pub use repair::Repair;
+pub use precompute::{precompute_link, precompute_row};
+pub use repair::{Entry, Repair};

@@ -9,11 +9,21 @@ pub struct Repair {
 }
 
 impl Model for Repair {
-    ghost use Rattle.theory.specs.Repair as theory;
+    ghost use Rattle.theory.specs.Repair.{Repair as Hops};
 
-    ghost Value = { theory.Repair };
+    ghost Value = { Hops };
 
-    ghost view = { λ r. record { p = r.p; q = r.q } };
+    ghost view = { λ repair. record { p = repair.p; q = repair.q } };
 
-    ghost inverse = { λ r. record { p = r.p; q = r.q } };
+    ghost inverse = { λ repair. record { p = repair.p; q = repair.q } };
+}
+
+/// What a node has precomputed for one of its links and one destination.
+#[derive(Clone, Copy, PartialEq, Eq, Debug)]
+pub enum Entry {
+    /// It doesn't send over the link to the destination.
+    Unused,
+    /// There is no post-convergence path.
+    Apart,
+    Via(Repair),
 }

@@ -17,8 +17,8 @@ use Rattle.std.specs.Option.{option_map}
 use Rattle.types.specs.declared.segment.Segment.{Segment}
 use Rattle.routes.proofs.Steps.{hop_outside}
 use Rattle.repairs.specs.Entries.{meaning}
-use Rattle.repairs.specs.declared.entry.Entry.{Entry}
-use Rattle.repairs.specs.declared.entry.Entry.TheVariants.{Unused, Apart, Via}
+use Rattle.repairs.specs.declared.repair.Entry.{Entry}
+use Rattle.repairs.specs.declared.repair.Entry.TheVariants.{Unused, Apart, Via}
 use Rattle.router.specs.Tables.{OwnRepairs, found, same_laid}
 
 -- a next hop is a neighbour, and only for a destination in the network

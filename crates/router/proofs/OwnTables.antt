@@ -8,8 +8,8 @@ use Rattle.theory.specs.Network.{Network}
 use Rattle.theory.specs.NextHop.{next_hop}
 use Rattle.theory.specs.Repair as theory
 use Rattle.theory.proofs.NextHops.{eq_same}
-use Rattle.repairs.specs.Table.{LinkLaid}
-use Rattle.repairs.specs.declared.entry.Entry.{Entry}
+use Rattle.repairs.specs.Table.{IsLinkFilled}
+use Rattle.repairs.specs.declared.repair.Entry.{Entry}
 use Rattle.types.proofs.Arrays.{from_fn_each}
 use Rattle.routes.specs.Costs.{link_cost}
 use Rattle.router.specs.Tables.{OwnHops, OwnRepairs, same_laid}
@@ -27,7 +27,7 @@ is_laid : (x y : theory.Laid) → x ≡ y → same_laid x y ≡ true
 is_laid x y e = rw e (same_self y)
 
 -- one row more
-pub own_repairs_more : (z : Network) (u f : ℕ) (old new : List Entry) → z.n ≤ 64 → OwnRepairs z u f old → LinkLaid z u f old new → OwnRepairs z u (f + 1) new
+pub own_repairs_more : (z : Network) (u f : ℕ) (old new : List Entry) → z.n ≤ 64 → OwnRepairs z u f old → IsLinkFilled z u f old new → OwnRepairs z u (f + 1) new
 own_repairs_more z u f old new few h l g d p = elim (cases_eq g f) [
   | inl x ↦ rw x (is_laid _ _ (l.row d p.1))
   | inr x ↦ rw (l.rest (g * 64 + d) (inl (omega (arith, p.0, p.1)))) (h g d (omega (arith, p.0), p.1, p.2))

@@ -5,8 +5,8 @@ use Rattle.theory.specs.Network.{Network, without}
 use Rattle.theory.specs.NextHop.{next_hop, same}
 use Rattle.theory.specs.Repair as theory
 use Rattle.repairs.specs.Entries.{meaning}
-use Rattle.repairs.specs.declared.entry.Entry.{Entry}
-use Rattle.repairs.specs.declared.entry.Entry.TheVariants.{Unused, Apart, Via}
+use Rattle.repairs.specs.declared.repair.Entry.{Entry}
+use Rattle.repairs.specs.declared.repair.Entry.TheVariants.{Unused, Apart, Via}
 use Rattle.router.specs.Transition.{in_set_of}
 use Rattle.router.specs.declared.transition.Transition.{Transition}
 use Rattle.types.specs.declared.node_set.NodeSet.{NodeSet}

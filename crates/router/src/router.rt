@@ -6,7 +6,7 @@ use crate::tables::own_repairs;
 use crate::transition::Transition;
 use links::Topology;
 use repairs::Entry;
-use routes::routes::Routes;
+use routes::Routes;
 use std::alloc::Global;
 use types::{LinkId, MAX_NODES, NodeId, Switched};
 

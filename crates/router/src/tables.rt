@@ -3,7 +3,7 @@ ghost use Rattle.routes.specs.Routes.{routes_network};
 ghost use Rattle.router.specs.Tables.{OwnHops, OwnRepairs};
 
 use repairs::{Entry, precompute_link};
-use routes::routes::Routes;
+use routes::Routes;
 use std::array;
 use types::{MAX_NODES, NodeId};
 

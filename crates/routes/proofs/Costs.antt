@@ -1,18 +1,18 @@
--- Rows of 64 costs: what they say of each two nodes, and how links are written into them. Assumes nothing.
-use Rattle.std.proofs.Common.{◌≡◌, ℕ, zero, suc, ◌+◌, ◌-◌, ◌*◌, ◌<◌, ◌≤◌, true, false, cond, ◌&&◌, eqb, ltb, List, [], ◌∷◌, length, get_or, drop, set, replicate, reverse, sym, refl, ap, ap₂, ◌∙◌, subst, inl, inr, arith, length-set}
+-- Rows of 64 costs: what they say of each two nodes, and how links are written into them.
+use Rattle.std.proofs.Common.{◌≡◌, ℕ, zero, suc, ◌+◌, ◌-◌, ◌*◌, ◌<◌, ◌≤◌, true, false, cond, ◌&&◌, eqb, ltb, List, [], ◌∷◌, length, get_or, drop, set, replicate, reverse, sym, ap, ap₂, ◌∙◌, subst, inl, inr, arith, length-set}
 use mathlib.Core.Path.{fun_ext}
-use Rattle.std.proofs.lemmas.Bool.{ltb-true, lt-ltb, eq-eqb, cases_lt, and_parts, cases_eq, cases_Bool, and_from, or_left, cond-true, cond-false, cond_both}
+use Rattle.std.proofs.lemmas.Bool.{ltb-true, ltb-false, lt-ltb, eq-eqb, cases_lt, and_parts, cases_eq, cases_Bool, and_from, or_left, cond-true, cond-false}
 use Rattle.std.proofs.lemmas.List.{get_or-replicate, get_or-set_same, get_or-set_other, drop_all, drop_more, get_or-reverse, get_or_default, length-reverse}
 use Rattle.types.specs.Link.{ends_of}
 use Rattle.links.specs.Links.{start, rising_from, rising, cost_in, network_of}
-use Rattle.links.proofs.Lawful.{rising_parts, lawful, limited}
-use Rattle.routes.specs.Matrix.{matrix_network}
-use Rattle.routes.specs.Costs.{cost_at, network_in, put, Symmetric, Loopless, Light, Written, Left}
-use Rattle.theory.specs.Network.{joins, Lawful, Limited, LinkId}
+use Rattle.links.proofs.Lawful.{rising_parts, lawful}
+use Rattle.routes.specs.Costs.{cost_at, network_in, put, CostRow}
+use Rattle.theory.specs.Network.{joins, Lawful, LinkId, Network}
+use Rattle.types.specs.NodeSets.{has}
+use Rattle.types.specs.declared.node_set.NodeSet.{NodeSet}
+use Rattle.routes.proofs.Sets.{Less, left_in, same_other}
 use Rattle.theory.proofs.Joins.{joins_symmetric, joins_ends}
-use Rattle.theory.proofs.Without.{lawful_without}
 use Rattle.types.specs.declared.link.Link.{Link}
-use Rattle.routes.specs.declared.matrix.CostMatrix.{CostMatrix}
 
 -- m has what f says of each two of n nodes
 abbrev pub Holds : ℕ → (ℕ → ℕ → ℕ) → List ℕ → Type 0
@@ -33,31 +33,30 @@ cost_within n m a b h = elim (cases_Bool (ltb a n && ltb b n)) [
   | inr f ↦ absurd (omega (arith, cond-false (ltb a n && ltb b n) (get_or m (a * 64 + b) 0) 0 f))
 ]
 
--- the cells of a lawful network's costs say the same as its links
+-- the cells of a lawful network's costs say the same as the network
 
 none_outside : (f : ℕ → ℕ → ℕ) (n a b : ℕ) → (0 < f a b → (a < n) × (b < n)) → ((a < n) × (b < n) → ⊥) → f a b ≡ 0
 none_outside f n a b w h = elim (cases_lt 0 (f a b)) [ inl l ↦ absurd (h (w l)) | inr l ↦ omega arith ]
 
-holds_same : (n : ℕ) (ls : List Link) (m : List ℕ) → Lawful (network_of n ls) → Holds n (cost_in ls) m → (a b : ℕ) → cost_at n m a b ≡ cost_in ls a b
-holds_same n ls m g h a b = elim (cases_lt a n) [
-  | inl p ↦ elim (cases_lt b n) [
-    | inl q ↦ cost_in_lem n m a b p q ∙ h a b (p, q)
-    | inr q ↦ none_outside (cost_at n m) n a b (cost_within n m a b) (λ i. omega (arith, i.1)) ∙ sym (none_outside (cost_in ls) n a b (g.within a b) (λ i. omega (arith, i.1)))
+same_cost : (z : Network) → Lawful z → (m : List ℕ) → Holds z.n z.cost m → (a b : ℕ) → cost_at z.n m a b ≡ z.cost a b
+same_cost z g m h a b = elim (cases_lt a z.n) [
+  | inl p ↦ elim (cases_lt b z.n) [
+    | inl q ↦ cost_in_lem z.n m a b p q ∙ h a b (p, q)
+    | inr q ↦ outside (λ i. omega (arith, i.1))
   ]
-  | inr p ↦ none_outside (cost_at n m) n a b (cost_within n m a b) (λ i. omega (arith, i.0)) ∙ sym (none_outside (cost_in ls) n a b (g.within a b) (λ i. omega (arith, i.0)))
+  | inr p ↦ outside (λ i. omega (arith, i.0))
 ]
+  where
+    outside : ((a < z.n) × (b < z.n) → ⊥) → cost_at z.n m a b ≡ z.cost a b
+    outside o = none_outside (cost_at z.n m) z.n a b (cost_within z.n m a b) o ∙ sym (none_outside z.cost z.n a b (g.within a b) o)
 
-pub holds_written : (n : ℕ) (ls : List Link) (i : ℕ) (m : List ℕ) → n ≤ 64 → rising n ls ≡ true → i ≤ 0 → Holds n (cost_in (drop i ls)) m → Written n ls m
-holds_written n ls i m few t z h =
+pub network_rows : (z : Network) → Lawful z → (m : List ℕ) → Holds z.n z.cost m → network_in z.n m ≡ z
+network_rows z g m h = ap (λ f. record { n = z.n; cost = f }) (fun_ext (λ a. fun_ext (λ b. same_cost z g m h a b)))
+
+pub holds_written : (n : ℕ) (ls : List Link) (i : ℕ) (m : List ℕ) → rising n ls ≡ true → i ≤ 0 → Holds n (cost_in (drop i ls)) m → network_in n m ≡ network_of n ls
+holds_written n ls i m t z h =
     let e : i ≡ 0 = omega arith in
-    let g = lawful n ls t in
-    let s = holds_same n ls m g (subst (λ k. Holds n (cost_in (drop k ls)) m) e h) in
-    record {
-      network = ap (λ f. record { n = n; cost = f }) (fun_ext (λ a. fun_ext (λ b. s a b)));
-      symmetric = λ a b. s a b ∙ (g.symmetric a b ∙ sym (s b a));
-      loopless = λ a. s a a ∙ g.loopless a;
-      light = λ a b. omega (arith, s a b, (limited n ls few t).light a b);
-    }
+    network_rows (network_of n ls) (lawful n ls t) m (subst (λ k. Holds n (cost_in (drop k ls)) m) e h)
 
 -- a link of a rising list
 pub rising_at : (n : ℕ) (p : Link) (ls : List Link) (i : ℕ) (d : Link) → rising_from n p ls ≡ true → i < length ls → ((get_or ls i d).a < (get_or ls i d).b) × ((get_or ls i d).b < n)
@@ -122,41 +121,30 @@ holds_more n ls k l m few t q len h =
     let e = from_end n ls k l t q in
     rw e.1 (put_holds n l (drop (length ls - k) ls) m few (omega (arith, e.2, e.3)) e.3 len h)
 
--- a link taken out
+-- the costs of the links of a node, written into its row one after another
 
-cost_outside : (n : ℕ) (m : List ℕ) (x y : ℕ) → ((x < n) × (y < n) → ⊥) → cost_at n m x y ≡ 0
-cost_outside n m x y h = none_outside (cost_at n m) n x y (cost_within n m x y) h
+-- the links to the nodes of rest are not written yet
+pub record Written (z : Network) (a : ℕ) (rest : NodeSet) (row : List ℕ) : Type 0 where
+  pub some : (b : ℕ) → has rest b ≡ true → 0 < z.cost a b
+  pub size : length row ≡ z.n
+  pub done : (b : ℕ) → b < z.n → has rest b ≡ false → get_or row b 0 ≡ z.cost a b
 
-cost_put : (n a b : ℕ) (m : List ℕ) → n ≤ 64 → a < n → b < n → length m ≡ 4096 → (x y : ℕ) → cost_at n (put a b 0 m) x y ≡ cond (joins (record { a = a; b = b }) x y) 0 (cost_at n m x y)
-cost_put n a b m few p q len x y = elim (cases_lt x n) [
-  | inl u ↦ elim (cases_lt y n) [
-    | inl v ↦ cost_in_lem n (put a b 0 m) x y u v ∙ (put_at a b 0 m (omega arith) (omega arith) len x y (omega arith) ∙ ap (λ c. cond (joins (record { a = a; b = b }) x y) 0 c) (sym (cost_in_lem n m x y u v)))
-    | inr v ↦ nothing (λ h. omega (arith, h.1))
-  ]
-  | inr u ↦ nothing (λ h. omega (arith, h.0))
-]
-  where
-    nothing : ((x < n) × (y < n) → ⊥) → cost_at n (put a b 0 m) x y ≡ cond (joins (record { a = a; b = b }) x y) 0 (cost_at n m x y)
-    nothing h = cost_outside n (put a b 0 m) x y h ∙ cond_both (joins (record { a = a; b = b }) x y) 0 (cost_at n m x y) (λ c. 0 ≡ c) (λ _. refl) (λ _. sym (cost_outside n m x y h))
+pub written_none : (z : Network) (a : ℕ) (all : NodeSet) (row : List ℕ) → ((b : ℕ) → has all b ≡ ltb 0 (z.cost a b)) → length row ≡ z.n → ((b : ℕ) → b < length row → get_or row b 0 ≡ 0) → Written z a all row
+written_none z a all row h size e = record {
+  some = λ b i. ltb-true 0 (z.cost a b) (sym (h b) ∙ i);
+  size = size;
+  done = λ b p i. omega (arith, e b (omega arith), ltb-false 0 (z.cost a b) (sym (h b) ∙ i));
+}
 
-left_of : (n a b : ℕ) (old new : List ℕ) → Symmetric n old → Loopless n old → Light n old → ((x y : ℕ) → cost_at n new x y ≡ cond (joins (record { a = a; b = b }) x y) 0 (cost_at n old x y)) → Left n (record { a = a; b = b }) old new
-left_of n a b old new both none light e =
-    let r : LinkId = record { a = a; b = b } in
-    let g = lawful_without r (network_in n old) (record { symmetric = both; loopless = none; within = cost_within n old }) in
-    record {
-      network = ap (λ f. record { n = n; cost = f }) (fun_ext (λ x. fun_ext (λ y. e x y)));
-      symmetric = λ x y. e x y ∙ (g.symmetric x y ∙ sym (e y x));
-      loopless = λ x. e x x ∙ g.loopless x;
-      light = λ x y. cond_both (joins r x y) 0 (cost_at n old x y) (λ c. cost_at n new x y ≡ c → cost_at n new x y ≤ 65535) (λ _ h. omega arith) (λ _ h. omega (arith, light x y)) (e x y);
-    }
+pub written_more : (z : Network) (a : ℕ) (rest less : NodeSet) (row : List ℕ) (b c : ℕ) → b < z.n → Less b rest less → c ≡ z.cost a b → Written z a rest row → Written z a less (set row b c)
+written_more z a rest less row b c p l e w = record {
+  some = λ x i. w.some x (left_in rest less b l x i);
+  size = length-set row b c ∙ w.size;
+  done = λ x q i. elim (cases_eq x b) [
+    | inl j ↦ rw j (get_or-set_same row b c 0 (omega (arith, w.size)) ∙ e)
+    | inr j ↦ get_or-set_other row b x c 0 j ∙ w.done x q (sym (same_other rest less b l x j) ∙ i)
+  ];
+}
 
-pub left_put : (n a b : ℕ) (m : List ℕ) → n ≤ 64 → a < n → b < n → length m ≡ 4096 → Symmetric n m → Loopless n m → Light n m → Left n (record { a = a; b = b }) m (put a b 0 m)
-left_put n a b m few p q len both none light = left_of n a b m (put a b 0 m) both none light (cost_put n a b m few p q len)
-
--- a matrix is a lawful network
-
-pub matrix_lawful : (m : CostMatrix) → Lawful (matrix_network m)
-matrix_lawful m = record { symmetric = m.symmetric; loopless = m.loopless; within = cost_within m.nodes m.costs }
-
-pub matrix_limited : (m : CostMatrix) → Limited (matrix_network m)
-matrix_limited m = record { few = m.few.1; light = m.light }
+pub written_all : (z : Network) (a : ℕ) (rest : NodeSet) (row : List ℕ) → ((b : ℕ) → has rest b ≡ false) → Written z a rest row → CostRow z a row
+written_all z a rest row none w = record { size = w.size; each = λ b p. w.done b p (none b) }

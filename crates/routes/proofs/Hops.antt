@@ -1,7 +1,6 @@
--- What distances in memory say of the next hops. Assumes nothing.
-use Rattle.std.proofs.Common.{◌≡◌, ℕ, ◌+◌, ◌<◌, ◌≤◌, true, eqb, ltb, ◌⊎◌, List, get_or, Some, None, Option, sym, refl, ap, ◌∙◌, inl, inr, arith}
+-- What distances in memory say of the next hops.
+use Rattle.std.proofs.Common.{◌≡◌, ℕ, ◌+◌, ◌-◌, ◌<◌, ◌≤◌, true, eqb, ltb, ◌⊎◌, List, get_or, Some, None, Option, sym, refl, ap, ◌∙◌, inl, inr, arith}
 use Rattle.std.proofs.lemmas.Bool.{ltb-true, lt-ltb, ne_eqb, cases_lt, cases_eq, cases_Bool, cond-true, cond-false}
-use Rattle.routes.specs.NextHops.{Near}
 use Rattle.types.specs.NodeSets.{has}
 use Rattle.types.specs.declared.node_set.NodeSet.{NodeSet}
 use Rattle.routes.specs.Distances.{decoded, Filled}
@@ -12,6 +11,11 @@ use Rattle.theory.proofs.DistanceLaws.{distance_self}
 use Rattle.theory.proofs.NextHops.{next_hop_is, is_next_hop}
 use Rattle.theory.proofs.HopPaths.{bounded}
 use Rattle.theory.proofs.Paths.{some_inj, none_some}
+
+-- by its link to e, at that price, a node at the distance here is as near as it can be
+pub record Near (price : ℕ) (dist : List ℕ) (here e : ℕ) : Type 0 where
+  pub less : get_or dist e 0 < here
+  pub cost : here - get_or dist e 0 ≡ price
 
 decoded_some : (x c : ℕ) → decoded x ≡ Some c → x ≡ c
 decoded_some x c p = elim (cases_Bool (eqb x 4294967295)) [

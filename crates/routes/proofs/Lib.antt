@@ -1,12 +1,12 @@
 pub mod Costs
 pub mod Sets
-pub mod LeftNetwork
+pub mod Changes
 pub mod Settled
 pub mod Relaxing
 pub mod TouchedNodes
 pub mod Neighbours
 pub mod Starting
-pub mod HopsWithout
+pub mod Renewing
 pub mod Hops
 pub mod Rows
 pub mod Steps

@@ -1,4 +1,4 @@
--- Rows of 64, one written after another. Assumes nothing.
+-- Rows of 64, one written after another.
 use Rattle.std.proofs.Common.{◌≡◌, ℕ, ◌+◌, ◌-◌, ◌<◌, ◌≤◌, eqb, List, ◌++◌, length, get_or, take, Some, None, sym, ap, ◌∙◌, arith}
 use Rattle.std.proofs.lemmas.Bool.{ne_eqb, cond-false}
 use Rattle.std.proofs.lemmas.List.{get_or_append_left, length-take-le, get_or-take, get_or-drop, get_or-append_right}

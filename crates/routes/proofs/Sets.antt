@@ -1,4 +1,4 @@
--- A set of nodes, taken one after another. Assumes nothing.
+-- A set of nodes, taken one after another.
 use Rattle.std.proofs.Common.{◌≡◌, ℕ, ◌<◌, true, false, not, ◌&&◌, eqb, sym, refl, ap, ◌∙◌}
 use Rattle.std.proofs.lemmas.Bool.{eq-eqb, ne_eqb, and_parts, and_right}
 use Rattle.std.proofs.Math.Bool.{and-true}

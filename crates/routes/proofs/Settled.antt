@@ -1,10 +1,10 @@
--- Dijkstra's algorithm: settled nodes keep their distances, and in the end each is the least. Assumes nothing.
+-- Dijkstra's algorithm: settled nodes keep their distances, and in the end each is the least.
 use Rattle.std.proofs.Common.{◌≡◌, ℕ, ◌+◌, ◌<◌, ◌≤◌, Bool, true, false, ◌&&◌, eqb, ltb, ◌⊎◌, List, [], ◌∷◌, length, get_or, set, Some, None, sym, refl, ap, ◌∙◌, subst, inl, inr, arith, length-set, Option}
 use Rattle.std.proofs.lemmas.Bool.{both_ways, and_from, and_right, ltb-true, ltb-false, lt-ltb, eq-eqb, ne_eqb, cases_lt, and_parts, cases_eq, cases_Bool, and_cases, cond-true, cond-false, cond_both}
 use Rattle.std.proofs.lemmas.List.{get_or-set_same, get_or-set_other}
 use Rattle.routes.specs.Distances.{decoded, Filled}
 use Rattle.routes.specs.Dijkstra.{relaxed, Relaxes, NoneNearer, Nearest}
-use Rattle.routes.specs.Settling.{Partly, Standing}
+use Rattle.routes.specs.Dijkstra.{Partly, Standing}
 use Rattle.types.specs.NodeSets.{has}
 use Rattle.types.specs.declared.node_set.NodeSet.{NodeSet}
 use Rattle.routes.proofs.Sets as sets

@@ -1,77 +1,91 @@
--- The distances of the nodes that a failed link touches, begun from those of the others. Assumes nothing.
+-- The distances of the nodes that a change touches, begun from those of the others.
 use Rattle.std.proofs.Common.{◌≡◌, ℕ, ◌+◌, ◌<◌, ◌≤◌, true, false, not, ◌&&◌, eqb, ltb, ◌⊎◌, List, [], ◌∷◌, length, get_or, set, Some, None, sym, refl, ap, ◌∙◌, subst, inl, inr, arith, length-set}
 use Rattle.std.proofs.lemmas.Bool.{both_ways, ltb-true, lt-ltb, eq-eqb, ne_eqb, not-true, cases_eq, cases_Bool, and_parts, and_from, cond-true, cond-false}
 use Rattle.std.proofs.lemmas.List.{get_or-set_same, get_or-set_other}
-use Rattle.theory.specs.Network.{Network, Lawful, Limited, LinkId, without}
-use Rattle.theory.specs.NextHop.{uses}
+use Rattle.theory.specs.Network.{Network, Lawful, Limited}
 use Rattle.theory.specs.Distance.{IsPath, path_cost, distance, Found}
 use Rattle.theory.proofs.Distances.{Dist, dist_distance}
 use Rattle.theory.proofs.DistanceLaws.{none_distance}
-use Rattle.theory.proofs.HopPaths.{bounded, uses_stop}
-use Rattle.theory.proofs.NextHops.{next_hop_here}
-use Rattle.theory.proofs.Without.{untouched, lawful_without}
-use Rattle.routes.specs.Distances.{decoded}
-use Rattle.routes.specs.Dijkstra.{LeastOver}
+use Rattle.theory.proofs.HopPaths.{bounded}
+use Rattle.types.specs.Change.{changed}
+use Rattle.types.specs.declared.change.Change.{Change}
 use Rattle.types.specs.NodeSets.{has}
 use Rattle.types.specs.declared.node_set.NodeSet.{NodeSet}
-use Rattle.routes.specs.Settling.{Standing}
+use Rattle.routes.specs.Distances.{Filled}
+use Rattle.routes.specs.Dijkstra.{LeastOver, Standing}
 use Rattle.routes.specs.Touched.{Touched}
+use Rattle.routes.specs.Routes.{routes_network}
+use Rattle.routes.specs.declared.routes.Routes.{Routes}
+use Rattle.routes.proofs.Changes.{changed_lawful, changed_nodes, routes_lawful, routes_limited}
 use Rattle.routes.proofs.Sets.{Less, left_in, same_other}
 
--- f has the distances as they are; the nodes of t, which the link touches, have begun but for those of rest; the others are as they are
-pub record Begun (z : Network) (r : LinkId) (d : ℕ) (t rest : NodeSet) (f : ℕ → ℕ) (dist : List ℕ) : Type 0 where
+-- the nodes of t have begun with their links to the others in y, but for those of rest; the others are as in old
+pub record Begun (y : Network) (d : ℕ) (t rest : NodeSet) (old dist : List ℕ) : Type 0 where
   pub some : (v : ℕ) → has rest v ≡ true → has t v ≡ true
-  pub size : length dist ≡ z.n
-  pub others : (v : ℕ) → v < z.n → has t v ≡ false → get_or dist v 0 ≡ f v
-  pub top : (v : ℕ) → v < z.n → has t v ≡ true → has rest v ≡ false → get_or dist v 0 ≤ 4294967295
-  pub found : (v : ℕ) → v < z.n → has t v ≡ true → has rest v ≡ false → get_or dist v 0 < 4294967295 → Found (without r z) d v (get_or dist v 0)
-  pub over : (v e : ℕ) → has t v ≡ true → has rest v ≡ false → 0 < (without r z).cost v e → has t e ≡ false → get_or dist v 0 ≤ (without r z).cost v e + f e
+  pub size : length dist ≡ y.n
+  pub others : (v : ℕ) → v < y.n → has t v ≡ false → get_or dist v 0 ≡ get_or old v 0
+  pub top : (v : ℕ) → v < y.n → has t v ≡ true → has rest v ≡ false → get_or dist v 0 ≤ 4294967295
+  pub found : (v : ℕ) → v < y.n → has t v ≡ true → has rest v ≡ false → get_or dist v 0 < 4294967295 → Found y d v (get_or dist v 0)
+  pub over : (v e : ℕ) → has t v ≡ true → has rest v ≡ false → 0 < y.cost v e → has t e ≡ false → get_or dist v 0 ≤ y.cost v e + get_or old e 0
 
-module _ (z : Network) (g : Lawful z) (s : Limited z) (r : LinkId) (d : ℕ) (aim : d < z.n) (t : NodeSet) (touched : Touched z r d t) (f : ℕ → ℕ) (row : (a : ℕ) → a < z.n → decoded (f a) ≡ distance z d a) where
-  abbrev y : Network
-  y = without r z
+-- the nodes of t are touched, and old has the distances before
+pub record Setting (z y : Network) (d : ℕ) (t : NodeSet) (old : List ℕ) : Type 0 where
+  pub before : Lawful z
+  pub limited : Limited z
+  pub after : Lawful y
+  pub nodes : y.n ≡ z.n
+  pub aim : d < z.n
+  pub touched : Touched z y d t
+  pub row : Filled z d old
 
-  laws : Lawful y
-  laws = lawful_without r z g
+pub setting : (r : Routes) (c : Change) (d : ℕ) (t : NodeSet) (old : List ℕ) → d < (routes_network r).n → Touched (routes_network r) (changed c (routes_network r)) d t → Filled (routes_network r) d old →
+    Setting (routes_network r) (changed c (routes_network r)) d t old
+setting r c d t old aim touched row = record {
+  before = routes_lawful r;
+  limited = routes_limited r;
+  after = changed_lawful c (routes_network r) (routes_lawful r);
+  nodes = changed_nodes c (routes_network r);
+  aim = aim;
+  touched = touched;
+  row = row;
+}
 
-  used : (v : ℕ) → v < z.n → has t v ≡ uses z r d v
-  used v p = touched v ∙ ap (λ b. b && uses z r d v) (lt-ltb v z.n p)
+module _ (z y : Network) (d : ℕ) (t : NodeSet) (old : List ℕ) (g : Setting z y d t old) where
+  abbrev f : ℕ → ℕ
+  f v = get_or old v 0
 
-  pub touched_within : (v : ℕ) → has t v ≡ true → v < z.n
-  touched_within v h = ltb-true v z.n (and_parts (ltb v z.n) (uses z r d v) (sym (touched v) ∙ h)).0
-
-  -- a node that isn't touched has no path left, as before, or its distance, as before
-  stays : (v : ℕ) → v < z.n → has t v ≡ false → (f v < 4294967295) × Dist y d v (f v) ⊎ (f v ≡ 4294967295) × ((ws : List ℕ) → IsPath y d v ws → ⊥)
+  -- a node that isn't touched has no path, as before, or its distance, as before
+  stays : (v : ℕ) → v < y.n → has t v ≡ false → (f v < 4294967295) × Dist y d v (f v) ⊎ (f v ≡ 4294967295) × ((ws : List ℕ) → IsPath y d v ws → ⊥)
   stays v p h =
-      let u : uses z r d v ≡ false = sym (used v p) ∙ h in
+      let l : v < z.n = omega (arith, g.nodes) in
       elim (cases_eq (f v) 4294967295) [
         | inl e ↦
-            let n : distance y d v ≡ None = (untouched z g r d v u).same_distance ∙ (sym (row v p) ∙ cond-true (eqb (f v) 4294967295) None (Some (f v)) (eq-eqb (f v) 4294967295 e)) in
-            inr (e, none_distance y laws d v n)
+            let k : distance y d v ≡ None = g.touched.same_distance v l h ∙ (sym (g.row.each v l) ∙ cond-true (eqb (f v) 4294967295) None (Some (f v)) (eq-eqb (f v) 4294967295 e)) in
+            inr (e, none_distance y g.after d v k)
         | inr e ↦
-            let q : distance z d v ≡ Some (f v) = sym (row v p) ∙ cond-false (eqb (f v) 4294967295) None (Some (f v)) (ne_eqb (f v) 4294967295 e) in
-            inl (omega (arith, bounded z g s d v (f v) q), dist_distance y laws d v (f v) ((untouched z g r d v u).same_distance ∙ q))
+            let q : distance z d v ≡ Some (f v) = sym (g.row.each v l) ∙ cond-false (eqb (f v) 4294967295) None (Some (f v)) (ne_eqb (f v) 4294967295 e) in
+            inl (omega (arith, bounded z g.before g.limited d v (f v) q), dist_distance y g.after d v (f v) (g.touched.same_distance v l h ∙ q))
       ]
 
-  pub begun_none : (dist : List ℕ) → length dist ≡ z.n → ((v : ℕ) → v < z.n → get_or dist v 0 ≡ f v) → Begun z r d t t f dist
-  begun_none dist size is = record {
+  pub begun_none : Begun y d t t old old
+  begun_none = record {
     some = λ v h. h;
-    size = size;
-    others = λ v p h. is v p;
+    size = g.row.size ∙ sym g.nodes;
+    others = λ v p h. refl;
     top = λ v p h n. absurd (both_ways (has t v) n h);
     found = λ v p h n. absurd (both_ways (has t v) n h);
     over = λ v e h n. absurd (both_ways (has t v) n h);
   }
 
-  pub begun_more : (rest less over : NodeSet) (dist : List ℕ) (x c : ℕ) → has rest x ≡ true → Less x rest less → ((e : ℕ) → has over e ≡ (ltb 0 (y.cost x e) && not (has t e))) → Begun z r d t rest f dist → LeastOver y x over dist c → Begun z r d t less f (set dist x c)
+  pub begun_more : (rest less over : NodeSet) (dist : List ℕ) (x c : ℕ) → has rest x ≡ true → Less x rest less → ((e : ℕ) → has over e ≡ (ltb 0 (y.cost x e) && not (has t e))) → Begun y d t rest old dist → LeastOver y x over dist c → Begun y d t less old (set dist x c)
   unfolding path_cost
   begun_more rest less over dist x c in_rest w q h o =
       let in_t = h.some x in_rest in
-      let xn = touched_within x in_t in
+      let xn = g.touched.within x in_t in
       let here : get_or (set dist x c) x 0 ≡ c = get_or-set_same dist x c 0 (omega (arith, h.size)) in
       let there : (v : ℕ) → (v ≡ x → ⊥) → get_or (set dist x c) v 0 ≡ get_or dist v 0 = λ v e. get_or-set_other dist x v c 0 e in
       let left : (v : ℕ) → (v ≡ x → ⊥) → has less v ≡ false → has rest v ≡ false = λ v e n. sym (same_other rest less x w v e) ∙ n in
-      let value : (e : ℕ) → has t e ≡ false → e < z.n → get_or dist e 0 ≡ f e = λ e n p. h.others e p n in
+      let value : (e : ℕ) → has t e ≡ false → e < y.n → get_or dist e 0 ≡ f e = λ e n p. h.others e p n in
       record {
         some = λ v k. h.some v (left_in rest less x w v k);
         size = length-set dist x c ∙ h.size;
@@ -86,7 +100,7 @@ module _ (z : Network) (g : Lawful z) (s : Limited z) (r : LinkId) (d : ℕ) (ai
                     let parts = and_parts (ltb 0 (y.cost x i.0)) (not (has t i.0)) (sym (q i.0) ∙ i.1) in
                     let link = ltb-true 0 (y.cost x i.0) parts.0 in
                     let out = not-true (has t i.0) parts.1 in
-                    let m = (laws.within x i.0 link).1 in
+                    let m = (g.after.within x i.0 link).1 in
                     elim (stays i.0 m out) [
                       | inl a ↦
                           let b = a.1.found in
@@ -98,7 +112,7 @@ module _ (z : Network) (g : Lawful z) (s : Limited z) (r : LinkId) (d : ℕ) (ai
         ];
         over = λ v e k n l u. elim (cases_eq v x) [
           | inl i ↦
-              let m = (laws.within v e l).1 in
+              let m = (g.after.within v e l).1 in
               let link : 0 < y.cost x e = subst (λ j. 0 < y.cost j e) i l in
               let within : has over e ≡ true = q e ∙ and_from (ltb 0 (y.cost x e)) (not (has t e)) (lt-ltb 0 (y.cost x e) link) (ap not u) in
               subst (λ j. get_or (set dist x c) j 0 ≤ y.cost j e + f e) (sym i) (omega (arith, here, o.least e within, value e u m))
@@ -106,25 +120,25 @@ module _ (z : Network) (g : Lawful z) (s : Limited z) (r : LinkId) (d : ℕ) (ai
         ];
       }
 
-  pub begun_all : (rest : NodeSet) (dist : List ℕ) → ((e : ℕ) → has rest e ≡ false) → Begun z r d t rest f dist → Standing y d t dist
+  pub begun_all : (rest : NodeSet) (dist : List ℕ) → ((e : ℕ) → has rest e ≡ false) → Begun y d t rest old dist → Standing y d t dist
   unfolding path_cost
   begun_all rest dist none h =
-      let own : has t d ≡ false = used d aim ∙ uses_stop z r d d (next_hop_here z d) in
-      let top : (v : ℕ) → v < z.n → get_or dist v 0 ≤ 4294967295 = λ v p. elim (cases_Bool (has t v)) [
+      let here : d < y.n = omega (arith, g.aim, g.nodes) in
+      let top : (v : ℕ) → v < y.n → get_or dist v 0 ≤ 4294967295 = λ v p. elim (cases_Bool (has t v)) [
         | inl u ↦ h.top v p u (none v)
         | inr u ↦ elim (stays v p u) [ inl x ↦ omega (arith, h.others v p u, x.0) | inr x ↦ omega (arith, h.others v p u, x.0) ]
       ] in
-      let right : (v : ℕ) → v < z.n → has t v ≡ false → (ws : List ℕ) → IsPath y d v ws → get_or dist v 0 ≤ path_cost y v ws = λ v p u ws w. elim (stays v p u) [
+      let right : (v : ℕ) → v < y.n → has t v ≡ false → (ws : List ℕ) → IsPath y d v ws → get_or dist v 0 ≤ path_cost y v ws = λ v p u ws w. elim (stays v p u) [
         | inl x ↦ omega (arith, h.others v p u, x.1.least ws w)
         | inr x ↦ absurd (x.1 ws w)
       ] in
       record {
-        within = touched_within;
+        within = λ v u. omega (arith, g.touched.within v u);
         size = h.size;
-        aim = aim;
+        aim = here;
         part = record {
-          start = elim (stays d aim own) [
-            | inl x ↦ let m = x.1.least [] refl in omega (arith, h.others d aim own)
+          start = elim (stays d here g.touched.aim) [
+            | inl x ↦ let m = x.1.least [] refl in omega (arith, h.others d here g.touched.aim)
             | inr x ↦ absurd (x.1 [] refl)
           ];
           top = top;
@@ -137,8 +151,8 @@ module _ (z : Network) (g : Lawful z) (s : Limited z) (r : LinkId) (d : ℕ) (ai
           ];
           right = right;
           links = λ u v o q.
-              let w = laws.within u v q in
-              let b = laws.symmetric u v in
+              let w = g.after.within u v q in
+              let b = g.after.symmetric u v in
               elim (cases_Bool (has t v)) [
                 | inl a ↦ omega (arith, h.over v u a (none v) (omega arith) o, h.others u w.0 o)
                 | inr a ↦ elim (stays u w.0 o) [

@@ -1,4 +1,4 @@
--- Next hops, paths and the use of a link, a step at a time. Assumes nothing.
+-- Next hops, paths and the use of a link, a step at a time.
 use Rattle.std.proofs.Common.{◌≡◌, ℕ, ◌<◌, Bool, true, false, ◌||◌, List, [], ◌∷◌, ◌++◌, Some, None, Option, sym, refl, ap, ◌∙◌, subst, append_assoc, append-nil}
 use Rattle.theory.specs.NextHop.{next_hop, path, uses}
 use Rattle.theory.specs.Distance.{IsPath}

@@ -1,17 +1,20 @@
--- Which nodes a failed link touches, one after another. Assumes nothing.
+-- Which nodes a change touches, one after another.
 use Rattle.std.proofs.Common.{◌≡◌, ℕ, ◌+◌, ◌<◌, Bool, true, false, not, ◌&&◌, ◌||◌, eqb, ltb, ◌⊎◌, length, set, Some, None, Option, sym, refl, ap, ◌∙◌, inl, inr, arith, length-set}
 use Rattle.std.proofs.lemmas.Bool.{both_ways, cases_eq, cases_lt, cases_Bool, eqb-true, eq-eqb, ne_eqb, ltb-true, lt-ltb, le-ltb, not-true, not_from_false, and_parts, and_from, and_left, and_right, or_cases, or_left, or_right}
-use Rattle.theory.specs.Network.{Network, Lawful, Limited, LinkId, joins}
-use Rattle.theory.specs.NextHop.{at_hop, uses, next_hop}
-use Rattle.theory.proofs.NextHops.{next_hop_is}
+use Rattle.theory.specs.Network.{Network, Lawful, Limited}
+use Rattle.theory.specs.NextHop.{at_hop, next_hop}
+use Rattle.theory.proofs.NextHops.{next_hop_is, next_hop_here}
+use Rattle.types.specs.Change.{changed}
+use Rattle.types.specs.declared.change.Change.{Change}
 use Rattle.types.specs.NodeSets.{has}
 use Rattle.types.specs.declared.node_set.NodeSet.{NodeSet}
 use Rattle.routes.specs.Neighbours.{set_at}
-use Rattle.routes.specs.Touched.{Touched, Sorted, sends_over, sends_to}
-use Rattle.routes.specs.declared.routes.touched.Senders.{Senders}
+use Rattle.routes.specs.Touched.{Touched, Sorted, cut_off, sends_to}
+use Rattle.routes.specs.declared.routes.Senders.{Senders}
+use Rattle.routes.proofs.Changes.{breaks, breaks_stop, breaks_to, unbroken_distance, unbroken_hop}
 use Rattle.routes.proofs.Sets.{Less, left_in, gone, same_other}
 use Rattle.theory.proofs.Distances.{count, count_lt}
-use Rattle.theory.proofs.HopPaths.{by_next_hops, uses_stop, uses_to}
+use Rattle.theory.proofs.HopPaths.{by_next_hops}
 use Rattle.std.proofs.lemmas.List.{get_or-set_same, get_or-set_other}
 
 pub hop_within : (z : Network) → Lawful z → (d a e : ℕ) → Some e ≡ next_hop z d a → e < z.n
@@ -54,11 +57,11 @@ first_without k p s n h a = elim (cases_eq a k) [
 ]
 
 -- at first nobody is sorted
-pub sorted_none : (z : Network) (r : LinkId) (d : ℕ) (s : Senders) → length s.to ≡ 64 → ((u : ℕ) → has s.over u ≡ false) → ((e u : ℕ) → e < z.n → has (set_at s.to e) u ≡ false) → Sorted z r d 0 s
-sorted_none z r d s size o t = record {
+pub sorted_none : (z y : Network) (d : ℕ) (s : Senders) → length s.to ≡ 64 → ((u : ℕ) → has s.cut u ≡ false) → ((e u : ℕ) → e < z.n → has (set_at s.to e) u ≡ false) → Sorted z y d 0 s
+sorted_none z y d s size o t = record {
   size = size;
-  over = λ a. o a ∙ sym (ap (λ x. x && sends_over z r d a) (le-ltb a 0 (omega arith)));
-  to = λ e a l. t e a l ∙ sym (ap (λ x. x && sends_to z r d a e) (le-ltb a 0 (omega arith)));
+  cut = λ a. o a ∙ sym (ap (λ x. x && cut_off z y d a) (le-ltb a 0 (omega arith)));
+  to = λ e a l. t e a l ∙ sym (ap (λ x. x && sends_to z y d a e) (le-ltb a 0 (omega arith)));
 }
 
 at_some : (f : ℕ → Bool) (o : Option ℕ) (e : ℕ) → Some e ≡ o → at_hop f o ≡ f e
@@ -67,145 +70,156 @@ at_some f o e h = ap (at_hop f) (sym h)
 at_none : (f : ℕ → Bool) (o : Option ℕ) → None ≡ o → at_hop f o ≡ false
 at_none f o h = ap (at_hop f) (sym h)
 
-module _ (z : Network) (few : Limited z) (r : LinkId) (d k : ℕ) (s t : Senders) (l : k < z.n) (h : Sorted z r d k s) where
-  -- k sends over the link
-  pub sorted_over : (e : ℕ) → Some e ≡ next_hop z d k → joins r k e ≡ true → t.to ≡ s.to → More k s.over t.over → Sorted z r d (k + 1) t
-  sorted_over e n j same m = record {
+module _ (z y : Network) (few : Limited z) (d k : ℕ) (s t : Senders) (l : k < z.n) (h : Sorted z y d k s) where
+  abbrev there : ℕ → Bool
+  there x = ltb 0 (y.cost k x)
+
+  -- the link of k to its next hop is gone
+  pub sorted_cut : (e : ℕ) → Some e ≡ next_hop z d k → there e ≡ false → t.to ≡ s.to → More k s.cut t.cut → Sorted z y d (k + 1) t
+  sorted_cut e n j same m = record {
     size = ap length same ∙ h.size;
-    over = first_with k (sends_over z r d) s.over t.over (omega (arith, few.few)) (at_some (λ x. joins r k x) (next_hop z d k) e n ∙ j) h.over m;
+    cut = first_with k (cut_off z y d) s.cut t.cut (omega (arith, few.few)) (at_some (λ x. not (there x)) (next_hop z d k) e n ∙ ap not j) h.cut m;
     to = λ v a p. ap (λ x. has (set_at x v) a) same ∙
-        first_without k (λ i. sends_to z r d i v) (set_at s.to v) (at_some (λ x. not (joins r k x) && eqb x v) (next_hop z d k) e n ∙ ap (λ x. not x && eqb e v) j) (λ i. h.to v i p) a;
+        first_without k (λ i. sends_to z y d i v) (set_at s.to v) (at_some (λ x. there x && eqb x v) (next_hop z d k) e n ∙ ap (λ x. x && eqb e v) j) (λ i. h.to v i p) a;
   }
 
-  -- it sends to e over another
-  pub sorted_to : (e : ℕ) (more : NodeSet) → e < z.n → Some e ≡ next_hop z d k → joins r k e ≡ false → t.over ≡ s.over → t.to ≡ set s.to e more → More k (set_at s.to e) more → Sorted z r d (k + 1) t
+  -- it is there
+  pub sorted_to : (e : ℕ) (more : NodeSet) → e < z.n → Some e ≡ next_hop z d k → there e ≡ true → t.cut ≡ s.cut → t.to ≡ set s.to e more → More k (set_at s.to e) more → Sorted z y d (k + 1) t
   sorted_to e more w n j same q m = record {
     size = ap length q ∙ (length-set s.to e more ∙ h.size);
-    over = λ a. ap (λ x. has x a) same ∙ first_without k (sends_over z r d) s.over (at_some (λ x. joins r k x) (next_hop z d k) e n ∙ j) h.over a;
+    cut = λ a. ap (λ x. has x a) same ∙ first_without k (cut_off z y d) s.cut (at_some (λ x. not (there x)) (next_hop z d k) e n ∙ ap not j) h.cut a;
     to = λ v a p. ap (λ x. has (set_at x v) a) q ∙ elim (cases_eq v e) [
       | inl i ↦
           rw i (ap (λ x. has x a) (get_or-set_same s.to e more (record { 0 = 0 }) (omega (arith, h.size, few.few))) ∙
-          first_with k (λ y. sends_to z r d y e) (set_at s.to e) more (omega (arith, few.few)) (at_some (λ x. not (joins r k x) && eqb x e) (next_hop z d k) e n ∙ (ap (λ x. not x && eqb e e) j ∙ eq-eqb e e refl)) (λ y. h.to e y w) m a)
+          first_with k (λ u. sends_to z y d u e) (set_at s.to e) more (omega (arith, few.few)) (at_some (λ x. there x && eqb x e) (next_hop z d k) e n ∙ (ap (λ x. x && eqb e e) j ∙ eq-eqb e e refl)) (λ u. h.to e u w) m a)
       | inr i ↦
           ap (λ x. has x a) (get_or-set_other s.to e v more (record { 0 = 0 }) i) ∙
-          first_without k (λ y. sends_to z r d y v) (set_at s.to v) (at_some (λ x. not (joins r k x) && eqb x v) (next_hop z d k) e n ∙ and_right (not (joins r k e)) (eqb e v) (ne_eqb e v (λ y. i (sym y)))) (λ y. h.to v y p) a
+          first_without k (λ u. sends_to z y d u v) (set_at s.to v) (at_some (λ x. there x && eqb x v) (next_hop z d k) e n ∙ and_right (there e) (eqb e v) (ne_eqb e v (λ u. i (sym u)))) (λ u. h.to v u p) a
     ];
   }
 
   -- it doesn't send
-  pub sorted_not : None ≡ next_hop z d k → t ≡ s → Sorted z r d (k + 1) t
+  pub sorted_not : None ≡ next_hop z d k → t ≡ s → Sorted z y d (k + 1) t
   sorted_not n same = rw same (record {
     size = h.size;
-    over = first_without k (sends_over z r d) s.over (at_none (λ x. joins r k x) (next_hop z d k) n) h.over;
-    to = λ v a p. first_without k (λ y. sends_to z r d y v) (set_at s.to v) (at_none (λ x. not (joins r k x) && eqb x v) (next_hop z d k) n) (λ y. h.to v y p) a;
+    cut = first_without k (cut_off z y d) s.cut (at_none (λ x. not (there x)) (next_hop z d k) n) h.cut;
+    to = λ v a p. first_without k (λ u. sends_to z y d u v) (set_at s.to v) (at_none (λ x. there x && eqb x v) (next_hop z d k) n) (λ u. h.to v u p) a;
   })
 
--- the nodes that were found use the link; the rest are found, too, and who sends to one that is done is found
-pub record Found (z : Network) (r : LinkId) (d : ℕ) (done rest : NodeSet) : Type 0 where
-  pub done_use : (a : ℕ) → has done a ≡ true → (a < z.n) × (uses z r d a ≡ true)
-  pub rest_use : (a : ℕ) → has rest a ≡ true → (a < z.n) × (uses z r d a ≡ true)
+-- the paths of the nodes that were found break; the rest are found, too, and who sends to one that is done is found
+pub record Found (z : Network) (c : Change) (d : ℕ) (done rest : NodeSet) : Type 0 where
+  pub done_breaks : (a : ℕ) → has done a ≡ true → (a < z.n) × (breaks c z d a ≡ true)
+  pub rest_breaks : (a : ℕ) → has rest a ≡ true → (a < z.n) × (breaks c z d a ≡ true)
   pub apart : (a : ℕ) → has rest a ≡ true → has done a ≡ false
-  pub first : (a : ℕ) → a < z.n → sends_over z r d a ≡ true → (has done a ≡ true) ⊎ (has rest a ≡ true)
-  pub next : (a e : ℕ) → a < z.n → has done e ≡ true → sends_to z r d a e ≡ true → (has done a ≡ true) ⊎ (has rest a ≡ true)
+  pub first : (a : ℕ) → a < z.n → cut_off z (changed c z) d a ≡ true → (has done a ≡ true) ⊎ (has rest a ≡ true)
+  pub next : (a e : ℕ) → a < z.n → has done e ≡ true → sends_to z (changed c z) d a e ≡ true → (has done a ≡ true) ⊎ (has rest a ≡ true)
 
-module _ (z : Network) (g : Lawful z) (few : Limited z) (r : LinkId) (d : ℕ) (s : Senders) (h : Sorted z r d z.n s) where
-  uses_over : (a : ℕ) → sends_over z r d a ≡ true → uses z r d a ≡ true
-  uses_over a t = go (next_hop z d a) refl t
+module _ (z : Network) (g : Lawful z) (few : Limited z) (c : Change) (d : ℕ) (s : Senders) (h : Sorted z (changed c z) d z.n s) where
+  abbrev y : Network
+  y = changed c z
+
+  abbrev link : ℕ → ℕ → Bool
+  link a e = ltb 0 (y.cost a e)
+
+  cut_breaks : (a : ℕ) → cut_off z y d a ≡ true → breaks c z d a ≡ true
+  cut_breaks a t = go (next_hop z d a) refl t
     where
-      go : (o : Option ℕ) → next_hop z d a ≡ o → at_hop (λ e. joins r a e) o ≡ true → uses z r d a ≡ true
-      go None e y = absurd (both_ways false refl y)
-      go (Some v) e y = uses_to z g r d a v e ∙ or_left (joins r a v) (uses z r d v) y
+      go : (o : Option ℕ) → next_hop z d a ≡ o → at_hop (λ e. not (link a e)) o ≡ true → breaks c z d a ≡ true
+      go None e i = absurd (both_ways false refl i)
+      go (Some v) e i = breaks_to c z g d a v e ∙ or_left (not (link a v)) (breaks c z d v) i
 
-  uses_next : (a e : ℕ) → sends_to z r d a e ≡ true → uses z r d e ≡ true → uses z r d a ≡ true
-  uses_next a e t u = go (next_hop z d a) refl t
+  breaks_behind : (a e : ℕ) → sends_to z y d a e ≡ true → breaks c z d e ≡ true → breaks c z d a ≡ true
+  breaks_behind a e t u = go (next_hop z d a) refl t
     where
-      go : (o : Option ℕ) → next_hop z d a ≡ o → at_hop (λ x. not (joins r a x) && eqb x e) o ≡ true → uses z r d a ≡ true
-      go None q y = absurd (both_ways false refl y)
-      go (Some v) q y = uses_to z g r d a v q ∙ or_right (joins r a v) (uses z r d v) (ap (uses z r d) (eqb-true v e (and_parts (not (joins r a v)) (eqb v e) y).1) ∙ u)
+      go : (o : Option ℕ) → next_hop z d a ≡ o → at_hop (λ x. link a x && eqb x e) o ≡ true → breaks c z d a ≡ true
+      go None q i = absurd (both_ways false refl i)
+      go (Some v) q i = breaks_to c z g d a v q ∙ or_right (not (link a v)) (breaks c z d v) (ap (breaks c z d) (eqb-true v e (and_parts (link a v) (eqb v e) i).1) ∙ u)
 
-  pub found_first : (none : NodeSet) → ((u : ℕ) → has none u ≡ false) → Found z r d none s.over
+  pub found_first : (none : NodeSet) → ((u : ℕ) → has none u ≡ false) → Found z c d none s.cut
   found_first none n = record {
-    done_use = λ a y. absurd (both_ways (has none a) (n a) y);
-    rest_use = λ a y. let p = and_parts (ltb a z.n) (sends_over z r d a) (sym (h.over a) ∙ y) in (ltb-true a z.n p.0, uses_over a p.1);
-    apart = λ a y. n a;
-    first = λ a l y. inr (h.over a ∙ and_from (ltb a z.n) (sends_over z r d a) (lt-ltb a z.n l) y);
-    next = λ a e l y. absurd (both_ways (has none e) (n e) y);
+    done_breaks = λ a i. absurd (both_ways (has none a) (n a) i);
+    rest_breaks = λ a i. let p = and_parts (ltb a z.n) (cut_off z y d a) (sym (h.cut a) ∙ i) in (ltb-true a z.n p.0, cut_breaks a p.1);
+    apart = λ a i. n a;
+    first = λ a l i. inr (h.cut a ∙ and_from (ltb a z.n) (cut_off z y d a) (lt-ltb a z.n l) i);
+    next = λ a e l i. absurd (both_ways (has none e) (n e) i);
   }
 
-  pub found_more : (done rest less more new fresh : NodeSet) (a : ℕ) → has rest a ≡ true → Less a rest less → More a done more → ((v : ℕ) → has fresh v ≡ (has (set_at s.to a) v && not (has more v))) → ((v : ℕ) → has new v ≡ (has less v || has fresh v)) → Found z r d done rest → Found z r d more new
+  pub found_more : (done rest less more new fresh : NodeSet) (a : ℕ) → has rest a ≡ true → Less a rest less → More a done more → ((v : ℕ) → has fresh v ≡ (has (set_at s.to a) v && not (has more v))) → ((v : ℕ) → has new v ≡ (has less v || has fresh v)) → Found z c d done rest → Found z c d more new
   found_more done rest less more new fresh a in_rest w m f q k =
-      let a_use = k.rest_use a in_rest in
-      let a_in : has more a ≡ true = more_in a done more m (omega (arith, a_use.0, few.few)) in
-      let in_less : (v : ℕ) → has less v ≡ true → has new v ≡ true = λ v y. q v ∙ or_left (has less v) (has fresh v) y in
-      let still : (v : ℕ) → has done v ≡ true ⊎ (has rest v ≡ true) → has more v ≡ true ⊎ (has new v ≡ true) = λ v y. elim y [
+      let a_breaks = k.rest_breaks a in_rest in
+      let a_in : has more a ≡ true = more_in a done more m (omega (arith, a_breaks.0, few.few)) in
+      let in_less : (v : ℕ) → has less v ≡ true → has new v ≡ true = λ v i. q v ∙ or_left (has less v) (has fresh v) i in
+      let still : (v : ℕ) → has done v ≡ true ⊎ (has rest v ≡ true) → has more v ≡ true ⊎ (has new v ≡ true) = λ v j. elim j [
         | inl i ↦ inl (more_still a done more m v i)
         | inr i ↦ elim (cases_eq v a) [
           | inl e ↦ inl (ap (has more) e ∙ a_in)
           | inr e ↦ inr (in_less v (same_other rest less a w v e ∙ i))
         ]
       ] in
-      let parts : (v : ℕ) → has new v ≡ true → has less v ≡ true ⊎ (has fresh v ≡ true) = λ v y. or_cases (has less v) (has fresh v) (sym (q v) ∙ y) in
+      let parts : (v : ℕ) → has new v ≡ true → has less v ≡ true ⊎ (has fresh v ≡ true) = λ v i. or_cases (has less v) (has fresh v) (sym (q v) ∙ i) in
       record {
-        done_use = λ v y. elim (cases_eq v a) [
-          | inl e ↦ rw e a_use
-          | inr e ↦ k.done_use v (sym (more_same a done more m v e) ∙ y)
+        done_breaks = λ v i. elim (cases_eq v a) [
+          | inl e ↦ rw e a_breaks
+          | inr e ↦ k.done_breaks v (sym (more_same a done more m v e) ∙ i)
         ];
-        rest_use = λ v y. elim (parts v y) [
-          | inl i ↦ k.rest_use v (left_in rest less a w v i)
+        rest_breaks = λ v j. elim (parts v j) [
+          | inl i ↦ k.rest_breaks v (left_in rest less a w v i)
           | inr i ↦
               let b = (and_parts (has (set_at s.to a) v) (not (has more v)) (sym (f v) ∙ i)).0 in
-              let p = and_parts (ltb v z.n) (sends_to z r d v a) (sym (h.to a v a_use.0) ∙ b) in
-              (ltb-true v z.n p.0, uses_next v a p.1 a_use.1)
+              let p = and_parts (ltb v z.n) (sends_to z y d v a) (sym (h.to a v a_breaks.0) ∙ b) in
+              (ltb-true v z.n p.0, breaks_behind v a p.1 a_breaks.1)
         ];
-        apart = λ v y. elim (parts v y) [
+        apart = λ v j. elim (parts v j) [
           | inl i ↦ elim (cases_eq v a) [
             | inl e ↦ absurd (both_ways (has less a) (gone rest less a w) (ap (has less) (sym e) ∙ i))
             | inr e ↦ more_same a done more m v e ∙ k.apart v (left_in rest less a w v i)
           ]
           | inr i ↦ not-true (has more v) (and_parts (has (set_at s.to a) v) (not (has more v)) (sym (f v) ∙ i)).1
         ];
-        first = λ v l y. still v (k.first v l y);
-        next = λ v e l y t. elim (cases_eq e a) [
+        first = λ v l i. still v (k.first v l i);
+        next = λ v e l j t. elim (cases_eq e a) [
           | inl i ↦ elim (cases_Bool (has more v)) [
             | inl b ↦ inl b
             | inr b ↦
-                let t' : sends_to z r d v a ≡ true = ap (sends_to z r d v) (sym i) ∙ t in
-                let o = h.to a v a_use.0 ∙ and_from (ltb v z.n) (sends_to z r d v a) (lt-ltb v z.n l) t' in
+                let t' : sends_to z y d v a ≡ true = ap (sends_to z y d v) (sym i) ∙ t in
+                let o = h.to a v a_breaks.0 ∙ and_from (ltb v z.n) (sends_to z y d v a) (lt-ltb v z.n l) t' in
                 inr (q v ∙ or_right (has less v) (has fresh v) (f v ∙ and_from (has (set_at s.to a) v) (not (has more v)) o (ap not b)))
           ]
-          | inr i ↦ still v (k.next v e l (sym (more_same a done more m e i) ∙ y) t)
+          | inr i ↦ still v (k.next v e l (sym (more_same a done more m e i) ∙ j) t)
         ];
       }
 
-  pub found_all : (done rest : NodeSet) → ((u : ℕ) → has rest u ≡ false) → Found z r d done rest → Touched z r d done
-  found_all done rest none k a = elim (cases_lt a z.n) [
-    | inl l ↦ elim (cases_Bool (has done a)) [
-      | inl y ↦ y ∙ sym (and_from (ltb a z.n) (uses z r d a) (lt-ltb a z.n l) (k.done_use a y).1)
-      | inr y ↦ y ∙ sym (and_right (ltb a z.n) (uses z r d a) (elim (cases_Bool (uses z r d a)) [
-        | inr u ↦ u
-        | inl u ↦ absurd (both_ways (has done a) y (all a l u))
-      ]))
-    ]
-    | inr l ↦ elim (cases_Bool (has done a)) [
-      | inl y ↦ absurd (omega (arith, (k.done_use a y).0))
-      | inr y ↦ y ∙ sym (and_left (ltb a z.n) (uses z r d a) (le-ltb a z.n l))
-    ]
-  ]
+  pub found_all : (done rest : NodeSet) → ((u : ℕ) → has rest u ≡ false) → Found z c d done rest → Touched z y d done
+  found_all done rest none k = record {
+    within = λ a i. (k.done_breaks a i).0;
+    aim = elim (cases_Bool (has done d)) [
+      | inl i ↦ absurd (both_ways (breaks c z d d) (breaks_stop c z d d (next_hop_here z d)) (k.done_breaks d i).1)
+      | inr i ↦ i
+    ];
+    same_distance = λ a l i. unbroken_distance c z g d a (unbroken a l i);
+    same_hop = λ a l i. unbroken_hop c z g d a (unbroken a l i);
+  }
     where
       in_done : (v : ℕ) → has done v ≡ true ⊎ (has rest v ≡ true) → has done v ≡ true
-      in_done v y = elim y [ inl i ↦ i | inr i ↦ absurd (both_ways (has rest v) (none v) i) ]
+      in_done v j = elim j [ inl i ↦ i | inr i ↦ absurd (both_ways (has rest v) (none v) i) ]
 
-      all : (v : ℕ) → v < z.n → uses z r d v ≡ true → has done v ≡ true
-      all = by_next_hops z g d (λ v. v < z.n → uses z r d v ≡ true → has done v ≡ true)
-          (λ v n l u. absurd (both_ways (uses z r d v) (uses_stop z r d v n) u))
+      all : (v : ℕ) → v < z.n → breaks c z d v ≡ true → has done v ≡ true
+      all = by_next_hops z g d (λ v. v < z.n → breaks c z d v ≡ true → has done v ≡ true)
+          (λ v n l u. absurd (both_ways (breaks c z d v) (breaks_stop c z d v n) u))
           (λ v e n i l u.
           let m = hop_within z g d v e (sym n) in
-          elim (cases_Bool (joins r v e)) [
-            | inl j ↦ in_done v (k.first v l (at_some (λ x. joins r v x) (next_hop z d v) e (sym n) ∙ j))
-            | inr j ↦
-                let on : uses z r d e ≡ true = sym (uses_to z g r d v e n ∙ ap (λ b. b || uses z r d e) j) ∙ u in
-                in_done v (k.next v e l (i m on) (at_some (λ x. not (joins r v x) && eqb x e) (next_hop z d v) e (sym n) ∙ (ap (λ b. not b && eqb e e) j ∙ eq-eqb e e refl)))
+          elim (cases_Bool (link v e)) [
+            | inl j ↦
+                let on : breaks c z d e ≡ true = sym (breaks_to c z g d v e n ∙ ap (λ b. not b || breaks c z d e) j) ∙ u in
+                in_done v (k.next v e l (i m on) (at_some (λ x. link v x && eqb x e) (next_hop z d v) e (sym n) ∙ (ap (λ b. b && eqb e e) j ∙ eq-eqb e e refl)))
+            | inr j ↦ in_done v (k.first v l (at_some (λ x. not (link v x)) (next_hop z d v) e (sym n) ∙ ap not j))
           ])
+
+      unbroken : (a : ℕ) → a < z.n → has done a ≡ false → breaks c z d a ≡ false
+      unbroken a l i = elim (cases_Bool (breaks c z d a)) [
+        | inl u ↦ absurd (both_ways (has done a) i (all a l u))
+        | inr u ↦ u
+      ]
 
 -- one node more is done
 pub undone_falls : (a : ℕ) (done more : NodeSet) → More a done more → a < 64 → has done a ≡ false → count 64 (λ v. not (has more v)) < count 64 (λ v. not (has done v))

@@ -1,20 +1,22 @@
--- The steps of Dijkstra's algorithm. Assumes nothing.
-use Rattle.std.specs.Prelude.{◌≡◌, ℕ, ◌+◌, ◌<◌, ◌≤◌, true, cond, ◌&&◌, ◌⊎◌, List, length, Option, MatchOption, nat_lt, slice_index, slice_index_or}
+-- Dijkstra's algorithm: its steps, and where it stands between them.
+use Rattle.std.specs.Prelude.{◌≡◌, ℕ, ◌+◌, ◌<◌, ◌≤◌, Bool, true, false, ◌&&◌, ◌⊎◌, List, length, Option, MatchOption, if◌then◌else◌, nat_lt, slice_index, slice_index_or}
+use Rattle.theory.specs.Network.{Network}
+use Rattle.theory.specs.Distance.{IsPath, path_cost, Found}
 use Rattle.types.specs.NodeSets.{has}
 use Rattle.types.specs.declared.node_set.NodeSet.{NodeSet}
-use Rattle.theory.specs.Network.{Network}
 
 -- the distance once the link of that cost, to a node at the distance here, is taken into account
 abbrev pub relaxed : ℕ → ℕ → ℕ → ℕ
-relaxed cost here there = cond (nat_lt 0 cost && nat_lt (here + cost) there) (here + cost) there
+relaxed cost here there = if nat_lt 0 cost && nat_lt (here + cost) there then here + cost else there
 
--- so for the links of the node u at the distance here to the nodes of s; what is known of others stays
+-- so for the links of the node u, at the distance here, to the nodes of s; other distances stay
 pub record Relaxes (z : Network) (u here : ℕ) (s : NodeSet) (old new : List ℕ) : Type 0 where
   pub size : length new ≡ length old
-  pub each : (e : ℕ) → e < z.n → slice_index new e ≡ cond (has s e) (relaxed (z.cost u e) here (slice_index old e)) (slice_index old e)
+  pub each : (e : ℕ) → e < z.n →
+      slice_index new e ≡
+      (if has s e then relaxed (z.cost u e) here (slice_index old e) else slice_index old e)
 
--- the least over the links of a node to the nodes of s, where dist says how far those are; 2^32 - 1 where none is known to be
--- anywhere
+-- the least over the links of a to the nodes of s, whose distances dist has; 2^32 - 1 where there is none
 pub record LeastOver (z : Network) (a : ℕ) (s : NodeSet) (dist : List ℕ) (c : ℕ) : Type 0 where
   pub top : c ≤ 4294967295
   pub least : (e : ℕ) → has s e ≡ true → c ≤ z.cost a e + slice_index dist e
@@ -36,3 +38,20 @@ pub record Nearest (s : NodeSet) (dist : List ℕ) (u : ℕ) : Type 0 where
 
 abbrev pub IsNearest : NodeSet → List ℕ → Option ℕ → Type 0
 IsNearest s dist r = MatchOption r (NoneNearer s dist) (λ u. Nearest s dist u)
+
+-- o says which nodes are free, and f how far each is from d as yet: a found path's cost, 2^32 - 1 where none is
+-- known; of those that are settled it is the least, and their links are taken into account
+pub record Partly (z : Network) (d : ℕ) (o : ℕ → Bool) (f : ℕ → ℕ) : Type 0 where
+  pub start : f d ≡ 0
+  pub top : (v : ℕ) → v < z.n → f v ≤ 4294967295
+  pub found : (v : ℕ) → v < z.n → f v < 4294967295 → Found z d v (f v)
+  pub right : (v : ℕ) → v < z.n → o v ≡ false → (ws : List ℕ) → IsPath z d v ws →
+      f v ≤ path_cost z v ws
+  pub links : (u e : ℕ) → o u ≡ false → 0 < z.cost u e → f e ≤ z.cost u e + f u
+
+-- the nodes of s are free, and dist says how far each node is as yet
+pub record Standing (z : Network) (d : ℕ) (s : NodeSet) (dist : List ℕ) : Type 0 where
+  pub within : AllBelow z.n s
+  pub size : length dist ≡ z.n
+  pub aim : d < z.n
+  pub part : Partly z d (has s) (λ v. slice_index dist v)

@@ -1,4 +1,4 @@
--- The network that a cost matrix is. Assumes nothing.
+-- The network that a cost matrix is.
 use Rattle.theory.specs.Network.{Network}
 use Rattle.routes.specs.Costs.{network_in}
 use Rattle.routes.specs.declared.matrix.CostMatrix.{CostMatrix}

@@ -1,4 +1,4 @@
--- The neighbours of each node, as sets. Assumes nothing.
+-- The neighbours of each node, as sets.
 use Rattle.std.specs.Prelude.{◌≡◌, ℕ, ◌<◌, List, nat_lt, slice_index_or}
 use Rattle.types.specs.NodeSets.{has}
 use Rattle.types.specs.declared.node_set.NodeSet.{NodeSet}

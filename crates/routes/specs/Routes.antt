@@ -1,4 +1,4 @@
--- The network that routes are for. Assumes nothing.
+-- The network that routes are for.
 use Rattle.theory.specs.Network.{Network}
 use Rattle.routes.specs.Matrix.{matrix_network}
 use Rattle.routes.specs.declared.routes.Routes.{Routes}

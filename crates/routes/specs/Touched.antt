@@ -1,26 +1,30 @@
--- The nodes that a failed link touches: those whose paths to a destination use it. Assumes nothing.
-use Rattle.std.specs.Prelude.{◌≡◌, ℕ, ◌<◌, Bool, not, ◌&&◌, ◌==◌, length, nat_lt}
-use Rattle.theory.specs.Network.{Network, LinkId, joins}
-use Rattle.theory.specs.NextHop.{at_hop, next_hop, uses}
+-- The nodes that a change of the network z to y touches on their way to a destination.
+use Rattle.std.specs.Prelude.{◌≡◌, ℕ, ◌<◌, Bool, true, false, not, ◌&&◌, ◌==◌, length, nat_lt}
+use Rattle.theory.specs.Network.{Network}
+use Rattle.theory.specs.Distance.{distance}
+use Rattle.theory.specs.NextHop.{at_hop, next_hop}
 use Rattle.types.specs.NodeSets.{has}
 use Rattle.types.specs.declared.node_set.NodeSet.{NodeSet}
 use Rattle.routes.specs.Neighbours.{set_at}
-use Rattle.routes.specs.declared.routes.touched.Senders.{Senders}
+use Rattle.routes.specs.declared.routes.Senders.{Senders}
 
--- s has just those whose path to d uses r
-abbrev pub Touched : Network → LinkId → ℕ → NodeSet → Type 0
-Touched z r d s = (a : ℕ) → has s a ≡ (nat_lt a z.n && uses z r d a)
+-- d itself is none of s, and who is none of s keeps its distance from d and its next hop for d
+pub record Touched (z y : Network) (d : ℕ) (s : NodeSet) : Type 0 where
+  pub within : (a : ℕ) → has s a ≡ true → a < z.n
+  pub aim : has s d ≡ false
+  pub same_distance : (a : ℕ) → a < z.n → has s a ≡ false → distance y d a ≡ distance z d a
+  pub same_hop : (a : ℕ) → a < z.n → has s a ≡ false → next_hop y d a ≡ next_hop z d a
 
--- does a send over the link to d?
-abbrev pub sends_over : Network → LinkId → ℕ → ℕ → Bool
-sends_over z r d a = at_hop (λ e. joins r a e) (next_hop z d a)
+-- has a a next hop for d to which its link is gone?
+abbrev pub cut_off : Network → Network → ℕ → ℕ → Bool
+cut_off z y d a = at_hop (λ e. not (nat_lt 0 (y.cost a e))) (next_hop z d a)
 
--- does it send to e over another?
-abbrev pub sends_to : Network → LinkId → ℕ → ℕ → ℕ → Bool
-sends_to z r d a e = at_hop (λ x. not (joins r a x) && (x == e)) (next_hop z d a)
+-- does it send to e, and the link is there?
+abbrev pub sends_to : Network → Network → ℕ → ℕ → ℕ → Bool
+sends_to z y d a e = at_hop (λ x. nat_lt 0 (y.cost a x) && (x == e)) (next_hop z d a)
 
 -- the first k nodes by how they send
-pub record Sorted (z : Network) (r : LinkId) (d k : ℕ) (s : Senders) : Type 0 where
+pub record Sorted (z y : Network) (d k : ℕ) (s : Senders) : Type 0 where
   pub size : length s.to ≡ 64
-  pub over : (a : ℕ) → has s.over a ≡ (nat_lt a k && sends_over z r d a)
-  pub to : (e a : ℕ) → e < z.n → has (set_at s.to e) a ≡ (nat_lt a k && sends_to z r d a e)
+  pub cut : (a : ℕ) → has s.cut a ≡ (nat_lt a k && cut_off z y d a)
+  pub to : (e a : ℕ) → e < z.n → has (set_at s.to e) a ≡ (nat_lt a k && sends_to z y d a e)

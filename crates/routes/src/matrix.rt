@@ -1,53 +1,153 @@
-ghost use Rattle.std.specs.Prelude.{◌≡◌, ◌+◌, ◌*◌, ◌<◌, ◌≤◌, ◌⊎◌, ◌↔◌, IsTrue, MatchOption};
-ghost use Rattle.links.specs.Links.{IsNodeCount};
-ghost use Rattle.routes.specs.Costs.{put, Symmetric, Loopless, Light};
+ghost use Rattle.std.specs.Prelude.{◌≡◌, ℕ, ◌+◌, ◌*◌, ◌<◌, ◌≤◌, ◌&&◌, ◌⊎◌, ◌↔◌, IsTrue, MatchOption, true, length, nat_lt, slice_index};
+ghost use Rattle.theory.specs.Network.{Lawful, Limited};
+ghost use Rattle.types.specs.NodeSets.{has};
+ghost use Rattle.links.specs.Links.{network_of, rising, IsNodeCount};
+ghost use Rattle.routes.specs.Costs.{network_in, put};
 ghost use Rattle.routes.specs.Neighbours.{LinkedEach};
 
-use types::NodeId;
-use types::NodeSet;
-use std::ops::Range;
+use crate::table::{CELLS, cell};
+use crate::view::View;
+use links::Topology;
+use types::{Change, Link, MAX_NODES, NodeId, NodeSet};
 
-pub mod build;
-pub mod distances;
-mod neighbours;
-pub mod next_hops;
-pub mod parts;
-pub mod rows;
-pub mod surviving;
-pub mod without;
-
-// What the links of a network cost, in rows of 64, a row for each node: 0 where there is no link, as in the theory; and the
-// neighbours of each. Arrays, as forwarding has no heap.
+/// What the links of a network cost, a row for each node, and the neighbours of each node.
 #[derive(Drop)]
 pub struct CostMatrix {
     nodes: u8,
-    costs: [u16; 4096],
-    neighbours: [NodeSet; 64],
+    // 0 where there is no link
+    costs: [u16; CELLS],
+    neighbours: [NodeSet; MAX_NODES],
     ghost few: { IsNodeCount nodes },
-    ghost symmetric: { Symmetric nodes costs },
-    ghost loopless: { Loopless nodes costs },
-    ghost light: { Light nodes costs },
+    ghost lawful: { Lawful (network_in nodes costs) },
+    ghost limited: { Limited (network_in nodes costs) },
     ghost linked: { LinkedEach nodes costs neighbours },
 }
 
-// Where the entry of b stands in row a, in rows of 64. There is no type for such a table: tables are lent as slices, a form
-// that was asked for.
-pub fn cell(a: NodeId, b: NodeId) -> usize
-    ensures { result ≡ a * 64 + b }
-{
-    a.number() as usize * 64 + b.number() as usize
+impl CostMatrix {
+    ghost use Rattle.std.specs.Prelude.{◌≡◌, ℕ, ◌+◌, ◌*◌, ◌<◌, ◌≤◌, ◌⊎◌, ◌↔◌, IsTrue, MatchOption, length, nat_lt};
+    ghost use Rattle.theory.specs.Network.{Lawful, Limited};
+    ghost use Rattle.theory.specs.NextHop.{next_hop};
+    ghost use Rattle.types.specs.Change.{changed};
+    ghost use Rattle.types.specs.NodeSets.{has};
+    ghost use Rattle.links.specs.Links.{IsNodeCount};
+    ghost use Rattle.links.specs.Topology.{network};
+    ghost use Rattle.routes.specs.Costs.{link_cost, network_in};
+    ghost use Rattle.routes.specs.Distances.{Filled};
+    ghost use Rattle.routes.specs.Matrix.{matrix_network};
+
+    /// What the links of a topology cost.
+    pub fn of(topology: &Topology) -> CostMatrix
+        ensures { matrix_network result ≡ network topology.now }
+    {
+        let nodes = topology.nodes();
+        CostMatrix::new(nodes, costs_of(nodes, topology.links()))
+    }
+
+    /// A network of so many nodes by its costs.
+    pub(crate) fn new(nodes: u8, costs: [u16; CELLS]) -> CostMatrix
+        requires few { IsNodeCount nodes }
+        requires lawful { Lawful (network_in nodes costs) }
+        requires limited { Limited (network_in nodes costs) }
+        ensures { matrix_network result ≡ network_in nodes costs }
+    {
+        let neighbours = neighbours_by(nodes, &costs);
+        CostMatrix {
+            nodes,
+            costs,
+            neighbours,
+        }
+    }
+
+    /// How many nodes there are: 1 to 64.
+    pub fn nodes(&self) -> u8
+        ensures value { result ≡ (matrix_network self.now).n }
+        ensures bounds { IsNodeCount result }
+    {
+        self.nodes
+    }
+
+    /// What the link between a and b costs, if there is one.
+    pub fn cost(&self, a: NodeId, b: NodeId) -> Option<u16>
+        ensures { result ≡ link_cost (matrix_network self.now) a b }
+    {
+        match self.costs[self.place(a, b)?] {
+            0 => None,
+            cost => Some(cost),
+        }
+    }
+
+    /// The costs of the network that a change leads to.
+    pub fn changed(&self, change: Change) -> CostMatrix
+        ensures { matrix_network result ≡ changed change (matrix_network self.now) }
+    {
+        View::new(self, &change).to_matrix()
+    }
+
+    /// The distance of each node from d, or `NEVER`, into `dist`.
+    pub fn distances(&self, d: NodeId, dist: &mut [u32])
+        requires node { d < (matrix_network self.now).n }
+        requires size { length dist.old ≡ (matrix_network self.now).n }
+        ensures { Filled (matrix_network self.now) d dist.new }
+    {
+        View::new(self, &Change::Nothing).distances(d, dist);
+    }
+
+    /// The next hop of a for d, where `dist` has the distances to d.
+    pub fn next_hop(&self, a: NodeId, dist: &[u32]) -> Option<NodeId>
+        requires node { a < (matrix_network self.now).n }
+        requires size { length dist.now ≡ (matrix_network self.now).n }
+        ensures { (d : ℕ) → Filled (matrix_network self.now) d dist.now →
+            result ≡ next_hop (matrix_network self.now) d a }
+    {
+        View::new(self, &Change::Nothing).next_hop(a, dist)
+    }
+
+    /// Is it one of the nodes?
+    fn has(&self, a: NodeId) -> bool
+        ensures { IsTrue result ↔ a < self.now.nodes }
+    {
+        a.is_below(self.nodes)
+    }
+
+    /// The cell of row a and column b, if both are nodes.
+    pub(crate) fn place(&self, a: NodeId, b: NodeId) -> Option<usize>
+        ensures { let n = (matrix_network self.now).n in
+            MatchOption result ((n ≤ a) ⊎ (n ≤ b)) (λ i. (a < n) × (b < n) × (i ≡ a * 64 + b)) }
+    {
+        (self.has(a) && self.has(b)).then(|| cell(a, b))
+    }
+
+    /// What the link between two nodes costs, 0 where there is none.
+    pub(crate) fn cost_of(&self, a: NodeId, b: NodeId) -> u16
+        requires { (a < (matrix_network self.now).n) × (b < (matrix_network self.now).n) }
+        ensures { result ≡ (matrix_network self.now).cost a b }
+    {
+        self.costs[cell(a, b)]
+    }
+
+    /// The nodes to which a node has a link.
+    pub(crate) fn neighbours(&self, a: NodeId) -> NodeSet
+        requires { a < (matrix_network self.now).n }
+        ensures { (b : ℕ) → has result b ≡ nat_lt 0 ((matrix_network self.now).cost a b) }
+    {
+        self.neighbours[a.index()]
+    }
 }
 
-// Where row a stands, of as many entries as there are nodes.
-pub fn row_of(a: NodeId, nodes: u8) -> Range<usize>
-    ensures { result ≡ record { start = a * 64; end = a * 64 + nodes } }
+/// The costs of a list of links, from the last one to the first.
+fn costs_of(nodes: u8, links: &[Link]) -> [u16; CELLS]
+    requires { (nodes ≤ 64) × (rising nodes links.now ≡ true) }
+    ensures { network_in nodes result ≡ network_of nodes links.now }
 {
-    let start = cell(a, NodeId(0));
-    start..start + nodes as usize
+    let mut costs = [0; CELLS];
+    for link in links.iter().rev() {
+        put(&mut costs, link.a, link.b, link.cost);
+    }
+    costs
 }
 
-// Writes what the link between a and b costs, both ways.
-fn put(costs: &mut [u16; 4096], a: NodeId, b: NodeId, cost: u16)
+/// Writes what the link between a and b costs, both ways.
+fn put(costs: &mut [u16; CELLS], a: NodeId, b: NodeId, cost: u16)
     requires { (a < 64) × (b < 64) }
     ensures { costs.new ≡ put a b cost costs.old }
 {
@@ -55,18 +155,31 @@ fn put(costs: &mut [u16; 4096], a: NodeId, b: NodeId, cost: u16)
     costs[cell(b, a)] = cost;
 }
 
-impl CostMatrix {
-    // Is it one of the nodes?
-    fn has(&self, a: NodeId) -> bool
-        ensures { IsTrue result ↔ a < self.now.nodes }
-    {
-        a.is_below(self.nodes)
+/// The neighbours of each node.
+fn neighbours_by(nodes: u8, costs: &[u16; CELLS]) -> [NodeSet; MAX_NODES]
+    requires { nodes ≤ 64 }
+    ensures { LinkedEach nodes costs.now result }
+{
+    // a loop: of a closure that asks for a node below 64 a proof knows nothing
+    let mut sets = [NodeSet::empty(); MAX_NODES];
+    for a in 0..nodes {
+        sets[a as usize] = linked(nodes, costs, NodeId(a));
     }
+    sets
+}
 
-    // The cell of row a and column b, if both are nodes.
-    pub(crate) fn place(&self, a: NodeId, b: NodeId) -> Option<usize>
-        ensures { MatchOption result ((self.now.nodes ≤ a) ⊎ (self.now.nodes ≤ b)) (λ i. (a < self.now.nodes) × (b < self.now.nodes) × (i ≡ a * 64 + b)) }
-    {
-        (self.has(a) && self.has(b)).then(|| cell(a, b))
+/// The nodes to which a node has a link.
+fn linked(nodes: u8, costs: &[u16; CELLS], a: NodeId) -> NodeSet
+    requires { (nodes ≤ 64) × (a < 64) }
+    ensures { (b : ℕ) →
+        has result b ≡ (nat_lt b nodes && nat_lt 0 (slice_index costs.now (a * 64 + b))) }
+{
+    let mut set = NodeSet::empty();
+    for b in 0..nodes {
+        let b = NodeId(b);
+        if costs[cell(a, b)] > 0 {
+            set.insert(b);
+        }
     }
+    set
 }

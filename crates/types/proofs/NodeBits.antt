@@ -14,7 +14,7 @@ set_of n = record { 0 = n }
 is_one : (x y : ℕ) → x ≡ y → eqb x 1 ≡ eqb y 1
 is_one x y e = ap (λ i. eqb i 1) e
 
--- nobody from 64 on
+-- no node from 64 on
 pub none_above : (n v : ℕ) → n < 18446744073709551616 → 64 ≤ v → has (set_of n) v ≡ false
 none_above n v f h = is_one (bit_at n v) 0 (bit_at_above n 64 v f h)
 
@@ -28,17 +28,24 @@ both_bits (suc zero) (suc (suc y)) p q = absurd (omega arith)
 both_bits (suc (suc x)) y p q = absurd (omega arith)
 
 pub and_has : (m n v : ℕ) → has (set_of (bit_and m n)) v ≡ (has (set_of m) v && has (set_of n) v)
-and_has m n v = is_one (bit_at (bit_and m n) v) (min (bit_at m v) (bit_at n v)) (bit_at_and m n v) ∙ both_bits (bit_at m v) (bit_at n v) (bit_at-lt m v) (bit_at-lt n v)
+and_has m n v =
+    is_one (bit_at (bit_and m n) v) (min (bit_at m v) (bit_at n v)) (bit_at_and m n v) ∙
+    both_bits (bit_at m v) (bit_at n v) (bit_at-lt m v) (bit_at-lt n v)
 
 other_bit : (x : ℕ) → x < 2 → eqb (1 - x) 1 ≡ not (eqb x 1)
 other_bit zero h = refl
 other_bit (suc zero) h = refl
 other_bit (suc (suc x)) h = absurd (omega arith)
 
-pub minus_has : (m n v : ℕ) → m < 18446744073709551616 → n < 18446744073709551616 → has (set_of (bit_and m (bit_not w64 n))) v ≡ (has (set_of m) v && not (has (set_of n) v))
+pub minus_has : (m n v : ℕ) → m < 18446744073709551616 → n < 18446744073709551616 →
+    has (set_of (bit_and m (bit_not w64 n))) v ≡ (has (set_of m) v && not (has (set_of n) v))
 minus_has m n v f g = and_has m (bit_not w64 n) v ∙ elim (cases_lt v 64) [
-  | inl l ↦ ap (λ b. has (set_of m) v && b) (is_one (bit_at (bit_not w64 n) v) (1 - bit_at n v) (bit_at_not w64 n v g l) ∙ other_bit (bit_at n v) (bit_at-lt n v))
-  | inr l ↦ ap (λ b. b && has (set_of (bit_not w64 n)) v) (none_above m v f l) ∙ sym (ap (λ b. b && not (has (set_of n) v)) (none_above m v f l))
+  | inl l ↦
+      ap (λ b. has (set_of m) v && b)
+      (is_one (bit_at (bit_not w64 n) v) (1 - bit_at n v) (bit_at_not w64 n v g l) ∙ other_bit (bit_at n v) (bit_at-lt n v))
+  | inr l ↦
+      ap (λ b. b && has (set_of (bit_not w64 n)) v) (none_above m v f l) ∙
+      sym (ap (λ b. b && not (has (set_of n) v)) (none_above m v f l))
 ]
 
 pub empty_has : (u : ℕ) → has (set_of 0) u ≡ false
@@ -52,7 +59,9 @@ only_has u v h = elim (cases_eq v u) [
   | inl e ↦
       let t : (eqb v u && ltb v 64) ≡ true = and_from (eqb v u) (ltb v 64) (eq-eqb v u e) (lt-ltb v 64 (omega arith)) in
       ap (has (set_of (one u))) e ∙ (is_one (bit_at (one u) u) 1 (bit_at_set_same w64 0 u h) ∙ sym t)
-  | inr e ↦ is_one (bit_at (one u) v) 0 (bit_at_set_other w64 0 u h v e ∙ bit_at-zero v) ∙ sym (ap (λ b. b && ltb v 64) (ne_eqb v u e))
+  | inr e ↦
+      is_one (bit_at (one u) v) 0 (bit_at_set_other w64 0 u h v e ∙ bit_at-zero v) ∙
+      sym (ap (λ b. b && ltb v 64) (ne_eqb v u e))
 ]
 
 -- where u is not below 64 there is none
@@ -72,10 +81,13 @@ either_bit (suc zero) (suc (suc y)) p q = absurd (omega arith)
 either_bit (suc (suc x)) y p q = absurd (omega arith)
 
 pub or_has : (m n v : ℕ) → has (set_of (bit_or m n)) v ≡ (has (set_of m) v || has (set_of n) v)
-or_has m n v = is_one (bit_at (bit_or m n) v) (max (bit_at m v) (bit_at n v)) (bit_at_or m n v) ∙ either_bit (bit_at m v) (bit_at n v) (bit_at-lt m v) (bit_at-lt n v)
+or_has m n v =
+    is_one (bit_at (bit_or m n) v) (max (bit_at m v) (bit_at n v)) (bit_at_or m n v) ∙
+    either_bit (bit_at m v) (bit_at n v) (bit_at-lt m v) (bit_at-lt n v)
 
 -- what is left once the node u is taken out
-pub without_only : (p q : ℕ → Bool) (u : ℕ) → ((v : ℕ) → q v ≡ (eqb v u && ltb v 64)) → ((v : ℕ) → 64 ≤ v → p v ≡ false) → (v : ℕ) → (p v && not (q v)) ≡ (p v && not (eqb v u))
+pub without_only : (p q : ℕ → Bool) (u : ℕ) → ((v : ℕ) → q v ≡ (eqb v u && ltb v 64)) → ((v : ℕ) → 64 ≤ v → p v ≡ false) →
+    (v : ℕ) → (p v && not (q v)) ≡ (p v && not (eqb v u))
 without_only p q u h above v = ap (λ b. p v && not b) (h v) ∙ elim (cases_lt v 64) [
   | inl l ↦ ap (λ b. p v && not b) (ap (λ b. eqb v u && b) (lt-ltb v 64 l) ∙ and-true (eqb v u))
   | inr l ↦ ap (λ b. b && not (eqb v u && ltb v 64)) (above v l) ∙ sym (ap (λ b. b && not (eqb v u)) (above v l))
@@ -84,18 +96,26 @@ without_only p q u h above v = ap (λ b. p v && not b) (h v) ∙ elim (cases_lt 
 pub lowest_bit : (n : ℕ) → 0 < n → n < 18446744073709551616 → Lowest (set_of n) (trailing_zeros w64 n)
 lowest_bit n p f =
     let t = bit_at-trailing_zeros w64 n p f in
-    record { within = t.0; in_set = is_one (bit_at n (trailing_zeros w64 n)) 1 t.1; none_lower = λ v l. is_one (bit_at n v) 0 (t.2 v l) }
+    record {
+      within = t.0;
+      in_set = is_one (bit_at n (trailing_zeros w64 n)) 1 t.1;
+      none_lower = λ v l. is_one (bit_at n v) 0 (t.2 v l);
+    }
 
 pub none_zero : (n : ℕ) → n < 18446744073709551616 → ((u : ℕ) → has (set_of n) u ≡ false) → n ≡ 0
 none_zero n f h = elim (cases_lt 0 n) [
-  | inl p ↦ let t = lowest_bit n p f in absurd (both_ways (has (set_of n) (trailing_zeros w64 n)) (h (trailing_zeros w64 n)) t.in_set)
+  | inl p ↦
+      let t = lowest_bit n p f in
+      absurd (both_ways (has (set_of n) (trailing_zeros w64 n)) (h (trailing_zeros w64 n)) t.in_set)
   | inr p ↦ omega arith
 ]
 
 -- the lowest n bits
 pub below_has : (n v : ℕ) → n ≤ 64 → has (set_of (2 ^ n - 1)) v ≡ (ltb v n && ltb v 64)
 below_has n v h = elim (cases_lt v n) [
-  | inl l ↦ is_one (bit_at (2 ^ n - 1) v) 1 (bit_at_ones n v l) ∙ sym (and_from (ltb v n) (ltb v 64) (lt-ltb v n l) (lt-ltb v 64 (omega arith)))
+  | inl l ↦
+      is_one (bit_at (2 ^ n - 1) v) 1 (bit_at_ones n v l) ∙
+      sym (and_from (ltb v n) (ltb v 64) (lt-ltb v n l) (lt-ltb v 64 (omega arith)))
   | inr l ↦ is_one (bit_at (2 ^ n - 1) v) 0 (bit_at_ones_above n v l) ∙ sym (ap (λ b. b && ltb v 64) (le-ltb v n l))
 ]
 

@@ -18,9 +18,11 @@ other u (Node x ∷ ss) h = search rules
 other u (Link a b ∷ ss) h = refl
 
 -- the first one is taken off, and so on
-pub strips_on : (u : ℕ) (p p' q : Packet) (ss : List Segment) → ss ≡ p.segments → true ≡ own_in u ss → p' ≡ behind_first p → q ≡ stripped u p' → q ≡ stripped u p
+pub strips_on : (u : ℕ) (p p' q : Packet) (ss : List Segment) → ss ≡ p.segments → true ≡ own_in u ss →
+    p' ≡ behind_first p → q ≡ stripped u p' → q ≡ stripped u p
 strips_on u p p' q ss e h l k =
-    k ∙ (ap (stripped u) l ∙ ap (with_segments p) (ap (λ rest. strip u (drop 1 rest)) (sym e) ∙ (own u ss h ∙ ap (strip u) e)))
+    let same = ap (λ rest. strip u (drop 1 rest)) (sym e) ∙ (own u ss h ∙ ap (strip u) e) in
+    k ∙ (ap (stripped u) l ∙ ap (with_segments p) same)
 
 -- there is none to take off
 pub strips_none : (u : ℕ) (p : Packet) (ss : List Segment) → ss ≡ p.segments → false ≡ own_in u ss → p ≡ stripped u p

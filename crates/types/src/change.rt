@@ -1,10 +1,10 @@
 use crate::link::LinkId;
 
-/// How a network changes.
+/// A change of a network.
 #[derive(Clone, Copy, PartialEq, Eq, Debug)]
 pub enum Change {
-    /// All stays as it is.
+    /// Nothing changes.
     Nothing,
-    /// A link fails; nothing changes where there is no such link.
+    /// A link fails. Nothing changes where there is no such link.
     LinkFails(LinkId),
 }

@@ -31,7 +31,7 @@ pub enum ReadFault {
 }
 
 impl ReadFault {
-    /// The number by which users know it: 1, 2, 3 or 7.
+    /// Returns the number by which users know it: 1, 2, 3 or 7.
     pub fn number(self) -> u8
         ensures { result ≡ read_number self }
     {
@@ -47,7 +47,7 @@ impl ReadFault {
     }
 }
 
-/// Why a router refuses a message, a list, or a frame; nothing changes then.
+/// Why a router refuses a message, a list or a frame. Nothing changes then.
 #[derive(Clone, Copy, PartialEq, Eq, Debug, Error)]
 pub enum Refusal {
     #[error("a link that is not in the list")]
@@ -61,7 +61,7 @@ pub enum Refusal {
 }
 
 impl Refusal {
-    /// The number by which users know it: 4, 5 or 6.
+    /// Returns the number by which users know it: 4, 5 or 6.
     pub fn number(self) -> u8
         ensures { result ≡ refusal_number self }
     {
@@ -91,7 +91,7 @@ pub enum DropReason {
 }
 
 impl DropReason {
-    /// The number by which users know it: 7, 8 or 9.
+    /// Returns the number by which users know it: 7, 8 or 9.
     pub fn number(self) -> u8
         ensures { result ≡ drop_number self }
     {
@@ -100,5 +100,23 @@ impl DropReason {
             DropReason::NoHopsLeft => 8,
             DropReason::SegmentElsewhere | DropReason::SegmentLinkDown => 9,
         }
+    }
+}
+
+#[cfg(test)]
+mod tests {
+    use super::*;
+    use std::test::Fail;
+
+    #[test]
+    fn texts(rt: HostRuntime) -> Result<(), Fail> {
+        let heap = rt.alloc();
+        let read = format!(in heap; "{}", ReadFault::NodeCount)?;
+        assert_eq!(rt; read.as_str(), "the number of nodes is not from 1 to 64");
+        let refusal = format!(in heap; "{}", Refusal::NotPending)?;
+        assert_eq!(rt; refusal.as_str(), "nobody waits for this Switched message");
+        let dropped = format!(in heap; "{}", DropReason::NoHopsLeft)?;
+        assert_eq!(rt; dropped.as_str(), "no hops left");
+        Ok(())
     }
 }

@@ -7,7 +7,7 @@ use crate::node::NodeId;
 use std::fmt;
 use std::marker::Model;
 
-/// A link by its two ends, in either order: `==` takes them as they stand, `is_same` either way round.
+/// A link by its two ends, in either order. `==` compares them as they stand, `is_same` either way round.
 #[derive(Clone, Copy, PartialEq, Eq, Debug)]
 pub struct LinkId {
     pub a: NodeId,
@@ -25,21 +25,21 @@ impl Model for LinkId {
 }
 
 impl LinkId {
-    /// Is it the link between x and y?
+    /// Returns whether it is the link between `x` and `y`.
     pub fn joins(self, x: NodeId, y: NodeId) -> bool
         ensures { result ≡ joins self x y }
     {
         (x == self.a && y == self.b) || (x == self.b && y == self.a)
     }
 
-    /// Is it the same link, whichever end comes first?
+    /// Returns whether it is the same link, whichever end comes first.
     pub fn is_same(self, other: LinkId) -> bool
         ensures { result ≡ joins self other.a other.b }
     {
         self.joins(other.a, other.b)
     }
 
-    /// Refused where its ends are not two of so many nodes.
+    /// Fails where its ends are not two of the nodes below `nodes`.
     pub fn check(self, nodes: u8) -> Result<(), ReadFault>
         ensures { result ≡ check_ends nodes self }
     {
@@ -51,7 +51,7 @@ impl LinkId {
         Ok(())
     }
 
-    /// The same link, by its lower node first.
+    /// Returns the same link, with its lower node first.
     pub fn lower_first(self) -> LinkId
         ensures { result ≡ lower_first self }
     {
@@ -73,7 +73,7 @@ impl fmt::Display for LinkId {
     }
 }
 
-/// A link of a network: the lower node, the higher one, and what it costs both ways.
+/// A link of a network: the lower node, the higher one, and the cost, the same both ways.
 #[derive(Clone, Copy, PartialEq, Eq, Debug)]
 pub struct Link {
     pub a: NodeId,

@@ -1,7 +1,7 @@
 use crate::link::LinkId;
 use crate::node::NodeId;
 
-/// `from` has switched to its new next hop for the destination, since that link has failed.
+/// Router `from` has switched to its new next hop for the destination, since that link has failed.
 #[derive(Clone, Copy, PartialEq, Eq, Debug)]
 pub struct Switched {
     pub from: NodeId,
@@ -9,10 +9,12 @@ pub struct Switched {
     pub link: LinkId,
 }
 
-/// What routers say to each other: a link has failed; or a router has switched.
+/// What routers say to each other.
 #[derive(Clone, Copy, PartialEq, Eq, Debug)]
 pub enum Message {
+    /// A link has failed.
     LinkDown(LinkId),
+    /// A router has switched.
     Switched(Switched),
 }
 

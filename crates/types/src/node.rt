@@ -24,7 +24,7 @@ impl Model for NodeId {
 }
 
 impl NodeId {
-    /// All of so many nodes, rising.
+    /// Returns the nodes below `nodes`, rising.
     pub fn all(nodes: u8) -> Nodes
         ensures from_the_first { result.next ≡ 0 }
         ensures to_the_last { result.end ≡ nodes }
@@ -35,28 +35,28 @@ impl NodeId {
         }
     }
 
-    /// Its number.
+    /// Returns its number.
     pub fn number(self) -> u8
         ensures { result ≡ self }
     {
         self.0
     }
 
-    /// Its number as an index.
+    /// Returns its number as an index.
     pub fn index(self) -> usize
         ensures { result ≡ self }
     {
         self.0 as usize
     }
 
-    /// Is it one of so many nodes?
+    /// Returns whether it is one of the nodes below `nodes`.
     pub fn is_below(self, nodes: u8) -> bool
         ensures { IsTrue result ↔ self < nodes }
     {
         self.0 < nodes
     }
 
-    /// Refused where it is not one of so many nodes.
+    /// Fails where it is not one of the nodes below `nodes`.
     pub fn check(self, nodes: u8) -> Result<(), ReadFault>
         ensures { result ≡ (if nat_lt self nodes then Ok tt else Err NodeOutOfRange) }
     {

@@ -4,18 +4,19 @@ ghost use Rattle.types.specs.NodeSets.{has, IsFirst, TakenFirst};
 use crate::node::NodeId;
 use std::marker::Model;
 
-/// A set of nodes below 64, the most that a network has: node u is in it where bit u is set.
+/// A set of nodes below 64, as the bits of a number: bit u is set where node u is in it.
 #[derive(Clone, Copy, PartialEq, Eq, Debug)]
 pub struct NodeSet(u64);
 
 impl NodeSet {
+    /// Returns a set of no nodes.
     pub fn empty() -> NodeSet
         ensures { (u : ℕ) → has result u ≡ false }
     {
         NodeSet(0)
     }
 
-    /// The nodes below n, and below 64.
+    /// Returns the set of the nodes below `n`, and below 64.
     pub fn below(n: u8) -> NodeSet
         ensures { (v : ℕ) → has result v ≡ (nat_lt v n && nat_lt v 64) }
     {
@@ -25,7 +26,7 @@ impl NodeSet {
         NodeSet((1u64 << n) - 1)
     }
 
-    /// The node u alone, if it is below 64.
+    /// Returns the set of `u` alone; of no nodes where it is not below 64.
     pub fn only(u: NodeId) -> NodeSet
         ensures { (v : ℕ) → has result v ≡ (v == u && nat_lt v 64) }
     {
@@ -35,21 +36,21 @@ impl NodeSet {
         NodeSet(1u64 << u.number())
     }
 
-    /// Is u in the set?
+    /// Returns whether `u` is in the set.
     pub fn contains(self, u: NodeId) -> bool
         ensures { result ≡ has self u }
     {
         u.is_below(64) && (self.0 >> u.number()) & 1 == 1
     }
 
-    /// Is nobody in it?
+    /// Returns whether no node is in it.
     pub fn is_empty(self) -> bool
         ensures { IsTrue result ↔ ((u : ℕ) → has self u ≡ false) }
     {
         self.0 == 0
     }
 
-    /// The lowest node in it, if there is one.
+    /// Returns the lowest node in it, if there is one.
     pub fn first(self) -> Option<NodeId>
         ensures { IsFirst self result }
     {
@@ -59,21 +60,21 @@ impl NodeSet {
         Some(NodeId(self.0.trailing_zeros() as u8))
     }
 
-    /// u is in it too, if it is below 64.
+    /// Adds `u`, if it is below 64.
     pub fn insert(&mut self, u: NodeId)
         ensures { (v : ℕ) → has self.new v ≡ ((v == u && nat_lt v 64) || has self.old v) }
     {
         *self = NodeSet(NodeSet::only(u).0 | self.0);
     }
 
-    /// u is no longer in it.
+    /// Takes `u` out.
     pub fn remove(&mut self, u: NodeId)
         ensures { (v : ℕ) → has self.new v ≡ (has self.old v && not (v == u)) }
     {
         *self = NodeSet(self.0 & !NodeSet::only(u).0);
     }
 
-    /// The lowest node in it is taken out.
+    /// Takes the lowest node out, if there is one.
     pub fn take_first(&mut self) -> Option<NodeId>
         ensures { TakenFirst self.old self.new result }
     {
@@ -82,28 +83,28 @@ impl NodeSet {
         Some(u)
     }
 
-    /// Its nodes, the lowest first.
+    /// Returns its nodes, the lowest first.
     pub fn iter(self) -> Members
         ensures { result ≡ self }
     {
         Members { left: self }
     }
 
-    /// Its nodes and those of the other.
+    /// Returns its nodes and those of the other.
     pub fn or(self, other: NodeSet) -> NodeSet
         ensures { (v : ℕ) → has result v ≡ (has self v || has other v) }
     {
         NodeSet(self.0 | other.0)
     }
 
-    /// Those of its nodes that are in the other, too.
+    /// Returns those of its nodes that are in the other, too.
     pub fn and(self, other: NodeSet) -> NodeSet
         ensures { (v : ℕ) → has result v ≡ (has self v && has other v) }
     {
         NodeSet(self.0 & other.0)
     }
 
-    /// Those that are not.
+    /// Returns those of its nodes that are not in the other.
     pub fn minus(self, other: NodeSet) -> NodeSet
         ensures { (v : ℕ) → has result v ≡ (has self v && not (has other v)) }
     {

@@ -3,7 +3,7 @@ ghost use Rattle.std.specs.Iterator.{at_most};
 
 use crate::node::NodeId;
 
-/// The nodes from `next` on, rising, as far as `end`, which is none of them.
+/// The nodes from `next` up to `end`, which is not one of them, rising.
 #[derive(Drop)]
 pub struct Nodes {
     pub next: u8,

@@ -7,7 +7,7 @@ use crate::node::NodeId;
 use crate::segment::Segment;
 use crate::segments::{Segments, SenderSegments};
 
-/// A packet: its destination, how many hops it may still go, and up to five segments. Its changes are by value.
+/// A packet: its destination, how many hops it may still go, and up to five segments.
 #[derive(Clone, Copy, PartialEq, Eq, Debug)]
 pub struct Packet {
     destination: NodeId,
@@ -16,7 +16,7 @@ pub struct Packet {
 }
 
 impl Packet {
-    /// A packet as its sender makes it: all hops are left.
+    /// Returns a packet as its sender makes it: all hops are left.
     pub fn new(destination: NodeId, segments: SenderSegments) -> Packet
         ensures { packet_of result ≡ fresh destination (segments_of segments) }
     {
@@ -27,7 +27,7 @@ impl Packet {
         }
     }
 
-    /// A packet on its way, with no segments yet.
+    /// Returns a packet on its way, with no segments.
     pub fn without_segments(destination: NodeId, hop_limit: u16) -> Packet
         ensures { packet_of result ≡ bare destination hop_limit }
     {
@@ -38,19 +38,21 @@ impl Packet {
         }
     }
 
+    /// Returns the node that it goes to in the end.
     pub fn destination(&self) -> NodeId
         ensures { result ≡ (packet_of self.now).destination }
     {
         self.destination
     }
 
+    /// Returns how many hops it may still go.
     pub fn hop_limit(&self) -> u16
         ensures { result ≡ (packet_of self.now).hop_limit }
     {
         self.hop_limit
     }
 
-    /// How many segments it has: up to five.
+    /// Returns how many segments it has: up to five.
     pub fn count(&self) -> u8
         ensures value { result ≡ length (packet_of self.now).segments }
         ensures bound { result ≤ 5 }
@@ -58,20 +60,21 @@ impl Packet {
         self.segments.count()
     }
 
+    /// Returns its segments in order, the active one first.
     pub fn segments(&self) -> &[Segment]
         ensures { result.now ≡ (packet_of self.now).segments }
     {
         self.segments.as_slice()
     }
 
-    /// The active segment, if there is one.
+    /// Returns the active segment, if there is one.
     pub fn first(&self) -> Option<Segment>
         ensures { result ≡ first_of (packet_of self.now).segments }
     {
         self.segments.first()
     }
 
-    /// The first segment taken off, if there is one.
+    /// Returns it with the first segment taken off, if there is one.
     pub fn without_first(self) -> Packet
         ensures { packet_of result ≡ behind_first (packet_of self) }
     {
@@ -79,7 +82,7 @@ impl Packet {
         Packet { segments, ..self }
     }
 
-    /// One segment behind the others; none where there are five.
+    /// Returns it with one segment more behind the others; `None` where there are five.
     pub fn with_last(self, segment: Segment) -> Option<Packet>
         ensures { option_map packet_of result ≡ longer (packet_of self) segment }
     {
@@ -87,8 +90,8 @@ impl Packet {
         Some(Packet { segments, ..self })
     }
 
-    /// A repair's two segments, to p and over the link from p to q, put in front of all others; none where that makes more
-    /// than five.
+    /// Returns it with a repair's two segments in front of all others: to `p`, and over the link from `p` to `q`;
+    /// `None` where that makes more than five.
     pub fn with_repair(self, p: NodeId, q: NodeId) -> Option<Packet>
         ensures { option_map packet_of result ≡ repaired (packet_of self) p q }
     {
@@ -98,7 +101,7 @@ impl Packet {
         Some(Packet { segments, ..self })
     }
 
-    /// One hop less, as a packet goes over a link; none where none is left.
+    /// Returns it with one hop less, as it goes over a link; `None` where no hop is left.
     pub fn one_hop_less(self) -> Option<Packet>
         ensures { option_map packet_of result ≡ one_less (packet_of self) }
     {
@@ -106,7 +109,7 @@ impl Packet {
         Some(Packet { hop_limit, ..self })
     }
 
-    /// At the node u: while the first segment is u, it is taken off.
+    /// Returns it at the node `u`: while the first segment is `u`, it is taken off.
     pub fn stripped(self, u: NodeId) -> Packet
         ensures { packet_of result ≡ stripped u (packet_of self) }
     {
@@ -117,7 +120,7 @@ impl Packet {
     }
 }
 
-/// Is the first segment the node u?
+/// Returns whether the first segment is the node `u`.
 fn own_first(segments: &[Segment], u: NodeId) -> bool
     ensures { result ≡ own_in u segments.now }
 {

@@ -20,7 +20,7 @@ impl<const N: usize> Segments<N> {
     ghost use Rattle.std.specs.Option.{option_map};
     ghost use Rattle.types.specs.Segments.{behind, first_of, in_front, segments_of};
 
-    /// No segments.
+    /// Returns no segments.
     pub(crate) fn none() -> Segments<N>
         requires { N < 256 }
         ensures { segments_of result ≡ [] }
@@ -31,7 +31,7 @@ impl<const N: usize> Segments<N> {
         }
     }
 
-    /// How many there are: up to N.
+    /// Returns how many there are: up to N.
     pub fn count(self) -> u8
         ensures value { result ≡ length (segments_of self.entry) }
         ensures bound { result ≤ N }
@@ -39,19 +39,21 @@ impl<const N: usize> Segments<N> {
         self.count
     }
 
+    /// Returns them in order, the active segment first.
     pub fn as_slice(&self) -> &[Segment]
         ensures { result.now ≡ segments_of self.now }
     {
         &self.all[..self.count as usize]
     }
 
+    /// Returns the active segment, if there is one.
     pub fn first(&self) -> Option<Segment>
         ensures { result ≡ first_of (segments_of self.now) }
     {
         self.as_slice().first().copied()
     }
 
-    /// One more behind the others; none where there are N.
+    /// Returns them with one more behind; `None` where there are N.
     pub(crate) fn with_last(mut self, segment: Segment) -> Option<Segments<N>>
         ensures { option_map segments_of result ≡ behind N (segments_of self.entry) segment }
     {
@@ -64,7 +66,7 @@ impl<const N: usize> Segments<N> {
         Some(self)
     }
 
-    /// One more in front of the others; none where there are N.
+    /// Returns them with one more in front; `None` where there are N.
     pub(crate) fn with_first(mut self, segment: Segment) -> Option<Segments<N>>
         ensures { option_map segments_of result ≡ in_front N (segments_of self.entry) segment }
     {
@@ -77,7 +79,7 @@ impl<const N: usize> Segments<N> {
         Some(self)
     }
 
-    /// The first taken off, if there is one.
+    /// Returns them with the first taken off, if there is one.
     pub(crate) fn without_first(mut self) -> Segments<N>
         ensures { segments_of result ≡ drop 1 (segments_of self.entry) }
     {
@@ -94,14 +96,14 @@ impl SenderSegments {
     ghost use Rattle.std.specs.Prelude.{◌≡◌, []};
     ghost use Rattle.types.specs.Segments.{segments_of, Pushed};
 
-    /// No segments.
+    /// Returns no segments.
     pub fn new() -> SenderSegments
         ensures { segments_of result ≡ [] }
     {
         Segments::none()
     }
 
-    /// One segment more behind the others; a fourth is refused, and nothing changes.
+    /// Adds one behind the others. A fourth is refused, and nothing changes.
     pub fn push(&mut self, segment: Segment) -> Result<(), ReadFault>
         ensures { Pushed (segments_of self.old) segment (segments_of self.new) result }
     {
@@ -129,7 +131,7 @@ impl From<Segments<3>> for Segments<5> {
     }
 }
 
-/// What lies in the array behind the count is no part of them.
+/// What lies in the array behind the count is not compared.
 impl<const N: usize> PartialEq for Segments<N> {
     ghost use Rattle.std.specs.Prelude.{take};
     ghost use Rattle.std.specs.Cmp.{on_per};

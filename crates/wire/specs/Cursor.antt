@@ -43,8 +43,11 @@ abbrev pub piece : {A B : Type 0} → ℕ → Front A → (A → List ℕ → Re
 piece i (Ok p) more = more p.0 p.1
 piece i (Err f) more = refused f i
 
--- k pieces, each judged by the last one before it, if there is one, and then the end; of all the bytes, which are m, bs are left
-unfoldable pub pieces_in : {A : Type 0} → (List ℕ → Front A) → (Option A → A → Option ReadFault) → ℕ → Option A → ℕ → List ℕ → Result (List A) ReadError
+-- k pieces, each judged by the last one before it, if there is one; and then the end. Of all the bytes, which are m,
+-- bs are left.
+unfoldable pub pieces_in : {A : Type 0} → (List ℕ → Front A) → (Option A → A → Option ReadFault) →
+    (k : ℕ) (last : Option A) (m : ℕ) (bs : List ℕ) → Result (List A) ReadError
 pieces_in at fault zero last m bs = ended (m - length bs) bs []
 pieces_in at fault (suc k) last m bs =
-    piece (m - length bs) (judged (fault last) (at bs)) (λ x rest. read_as (λ xs. x ∷ xs) (pieces_in at fault k (Some x) m rest))
+    piece (m - length bs) (judged (fault last) (at bs))
+    (λ x rest. read_as (λ xs. x ∷ xs) (pieces_in at fault k (Some x) m rest))

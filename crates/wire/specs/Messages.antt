@@ -1,5 +1,5 @@
 -- The bytes of a message between routers, and how they are read: all its fields, the end.
-use Rattle.std.specs.Prelude.{ℕ, ◌-◌, ◌<◌, if◌then◌else◌, ◌&&◌, List, [], ◌∷◌, length, Some, None, Err, Option, Result, ◌==◌, nat_lt, slice_index}
+use Rattle.std.specs.Prelude.{ℕ, ◌-◌, ◌<◌, if◌then◌else◌, ◌&&◌, List, [], ◌∷◌, length, Some, None, Err, Option, Result, not, ◌==◌, nat_lt, slice_index}
 use Rattle.types.specs.Link.{lower_first}
 use Rattle.types.specs.declared.fault.ReadFault.{ReadFault}
 use Rattle.types.specs.declared.fault.ReadFault.TheVariants.{UnknownKind, Truncated, NodeOutOfRange, SelfLink, HigherFirst}
@@ -46,17 +46,17 @@ message_at bs =
 -- why it is refused among n nodes: the lowest number that applies
 abbrev pub link_fault : ℕ → LinkId → Option ReadFault
 link_fault n l =
-    if nat_lt l.a n && nat_lt l.b n then
-        (if l.a == l.b then Some SelfLink
-        else if nat_lt l.b l.a then Some HigherFirst
-        else None)
-    else Some NodeOutOfRange
+    if not (nat_lt l.a n && nat_lt l.b n) then Some NodeOutOfRange
+    else if l.a == l.b then Some SelfLink
+    else if nat_lt l.b l.a then Some HigherFirst
+    else None
 
 abbrev pub message_fault : ℕ → Message → Option ReadFault
 message_fault n (LinkDown l) = link_fault n l
 message_fault n (Switched m) =
-    if nat_lt m.from n && nat_lt m.destination n then link_fault n m.link else Some NodeOutOfRange
+    if not (nat_lt m.from n && nat_lt m.destination n) then Some NodeOutOfRange else link_fault n m.link
 
+-- what is read: the message, or the first fault and the byte at which its piece begins
 abbrev pub message_in : ℕ → List ℕ → Result Message ReadError
 message_in n bs =
     piece 0 (judged (message_fault n) (message_at bs)) (λ m rest. ended (length bs - length rest) rest m)

@@ -1,5 +1,5 @@
 -- The bytes of a packet, and how they are read: the header, each segment, the end.
-use Rattle.std.specs.Prelude.{ℕ, ◌+◌, ◌*◌, ◌/◌, ◌%◌, ◌<◌, ◌≤◌, if◌then◌else◌, ◌&&◌, List, [], ◌∷◌, length, Some, None, Err, Option, Result, ◌==◌, ◌≢◌, nat_le, nat_lt, slice_index}
+use Rattle.std.specs.Prelude.{ℕ, ◌+◌, ◌*◌, ◌/◌, ◌%◌, ◌<◌, ◌≤◌, if◌then◌else◌, ◌&&◌, List, [], ◌∷◌, length, Some, None, Err, Option, Result, not, ◌==◌, ◌≢◌, nat_lt, slice_index}
 use Rattle.std.specs.List.{flat_map}
 use Rattle.types.specs.Packet.{Packet}
 use Rattle.types.specs.declared.fault.ReadFault.{ReadFault}
@@ -11,14 +11,16 @@ use Rattle.wire.specs.Cursor.{read_as, Front, whole, judged, piece, pieces_in}
 use Rattle.wire.specs.declared.packet.Origin.{Origin}
 use Rattle.wire.specs.declared.packet.Origin.TheVariants.{Sender, Neighbour}
 
--- what is written: 2, the destination, the hop limit with the high byte first, the number of segments, and each segment
+-- what is written of a segment: 0 and the node, or 1 and the link's two nodes
 abbrev pub segment_bytes : Segment → List ℕ
 segment_bytes (Node x) = 0 ∷ (x ∷ [])
 segment_bytes (Link from to) = 1 ∷ (from ∷ (to ∷ []))
 
+-- and of a packet: 2, the destination, the hop limit (2, the high byte first), the number of segments, and each segment
 abbrev pub packet_bytes : Packet → List ℕ
 packet_bytes p =
-    2 ∷ (p.destination ∷ (p.hop_limit / 256 ∷ (p.hop_limit % 256 ∷ (length p.segments ∷ flat_map segment_bytes p.segments))))
+    let segments = length p.segments ∷ flat_map segment_bytes p.segments in
+    2 ∷ (p.destination ∷ (p.hop_limit / 256 ∷ (p.hop_limit % 256 ∷ segments)))
 
 -- which packets are lawful among n nodes
 abbrev pub SegmentLawful : ℕ → Segment → Type 0
@@ -53,9 +55,11 @@ segment_at bs =
 
 -- why a segment is refused among n nodes: the lowest number that applies
 abbrev pub segment_fault : ℕ → Segment → Option ReadFault
-segment_fault n (Node x) = if nat_lt x n then None else Some NodeOutOfRange
+segment_fault n (Node x) = if not (nat_lt x n) then Some NodeOutOfRange else None
 segment_fault n (Link from to) =
-    if nat_lt from n && nat_lt to n then (if from == to then Some SelfLink else None) else Some NodeOutOfRange
+    if not (nat_lt from n && nat_lt to n) then Some NodeOutOfRange
+    else if from == to then Some SelfLink
+    else None
 
 -- k segments behind the last one, and then the end; of all the bytes, which are m, bs are left
 abbrev pub segments_in : ℕ → ℕ → Option Segment → ℕ → List ℕ → Result (List Segment) ReadError
@@ -75,17 +79,18 @@ header_of bs = record {
   count = slice_index bs 4;
 }
 
+-- why a header is refused
 abbrev pub header_fault : Origin → ℕ → (kind destination count : ℕ) → Option ReadFault
 header_fault from n kind destination count =
-    if kind == 2 then
-        (if nat_lt destination n then
-            (if nat_le count (most from) then None else Some (too_many from))
-        else Some NodeOutOfRange)
-    else Some UnknownKind
+    if not (kind == 2) then Some UnknownKind
+    else if not (nat_lt destination n) then Some NodeOutOfRange
+    else if nat_lt (most from) count then Some (too_many from)
+    else None
 
 abbrev pub with_header : Header → List Segment → Packet
 with_header h ss = record { destination = h.destination; hop_limit = h.hop_limit; segments = ss }
 
+-- what is read: the packet, or the first fault and the byte at which its piece begins
 abbrev pub packet_in : Origin → ℕ → List ℕ → Result Packet ReadError
 packet_in from n bs =
     piece 0 (judged (λ h. header_fault from n h.kind h.destination h.count) (whole 5 bs (header_of bs)))

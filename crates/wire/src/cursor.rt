@@ -12,7 +12,7 @@ pub(crate) struct Cursor<'a> {
 }
 
 impl<'a> Cursor<'a> {
-    /// All of them.
+    /// At the first of some bytes.
     pub(crate) fn new(bytes: &'a [u8]) -> Cursor<'a>
         ensures all { result.bytes.now ≡ bytes.now }
         ensures size { result.size ≡ length bytes.now }
@@ -23,7 +23,7 @@ impl<'a> Cursor<'a> {
         }
     }
 
-    /// What is left behind the next piece.
+    /// At what is left behind the next piece.
     pub(crate) fn after(self, rest: &'a [u8]) -> Cursor<'a>
         ensures rest { result.bytes.now ≡ rest.now }
         ensures size { result.size ≡ self.entry.size }
@@ -36,10 +36,8 @@ impl<'a> Cursor<'a> {
 
     /// A fault of the next piece, at the byte where it begins.
     pub(crate) fn refuse(self, fault: ReadFault) -> ReadError
-        ensures {
-            let at = self.entry.size - length self.entry.bytes.now in
-            result ≡ record { fault = fault; at = at }
-        }
+        ensures { let at = self.entry.size - length self.entry.bytes.now in
+            result ≡ record { fault = fault; at = at } }
     {
         let at = self.size.saturating_sub(self.bytes.len());
         ReadError { fault, at }
@@ -57,10 +55,8 @@ impl<'a> Cursor<'a> {
 
     /// The end: nothing is left over.
     pub(crate) fn end(self) -> Result<(), ReadError>
-        ensures {
-            let bytes = self.entry.bytes.now in
-            result ≡ ended (self.entry.size - length bytes) bytes tt
-        }
+        ensures { let bytes = self.entry.bytes.now in
+            result ≡ ended (self.entry.size - length bytes) bytes tt }
     {
         if !self.bytes.is_empty() {
             return Err(self.refuse(ReadFault::TrailingBytes));

@@ -23,7 +23,7 @@ impl fmt::Display for ReadError {
 
 impl Error for ReadError {}
 
-/// Why a list of links is not read: its bytes are refused, or memory is wanting.
+/// Why a list of links is not read: its bytes are refused, or memory runs out.
 #[derive(Clone, Copy, PartialEq, Eq, Debug)]
 pub enum LinksError {
     Refused(ReadError),
@@ -42,10 +42,10 @@ impl fmt::Display for LinksError {
 impl Error for LinksError {}
 
 impl From<ReadError> for LinksError {
-    ghost from_gives = { λ error r. r ≡ Refused error };
+    ghost from_gives = { λ refusal r. r ≡ Refused refusal };
 
-    fn from(error: ReadError) -> LinksError {
-        LinksError::Refused(error)
+    fn from(refusal: ReadError) -> LinksError {
+        LinksError::Refused(refusal)
     }
 }
 

@@ -59,9 +59,8 @@ impl<'a> Iterator for Frames<'a> {
 
 /// Puts a packet behind what is written already, after the neighbour that it goes to.
 pub fn emit_packet_to(to: NodeId, packet: &Packet, out: &mut Vec<u8>) -> Result<(), AllocError>
-    ensures ok {
-        OnOk result (out.new.items ≡ out.old.items ++ to ∷ packet_bytes (packet_of packet.now))
-    }
+    ensures ok { let bytes = packet_bytes (packet_of packet.now) in
+        OnOk result (out.new.items ≡ out.old.items ++ to ∷ bytes) }
     ensures err { OnErr result (out.new.items ≡ out.old.items) }
 {
     out.push(to.number())?;

@@ -27,7 +27,7 @@ pub enum Kind {
     Switched,
 }
 
-/// By its first byte.
+/// Classifies bytes by the first one.
 pub fn kind_of(bytes: &[u8]) -> Result<Kind, ReadError>
     ensures { result ≡ kind_in bytes.now }
 {

@@ -42,10 +42,8 @@ fn check_header(kind: u8, nodes: u8) -> Result<(), ReadFault>
 
 /// So many links, and then the end. Those that are not yet read are handed on as the rest of the bytes.
 fn parse_rest(heap: Global, cursor: Cursor, nodes: u8, count: u16) -> Result<Vec<Link>, LinksError>
-    ensures {
-        let read = links_in nodes count None cursor.entry.size cursor.entry.bytes.now in
-        MatchResult result (λ v. read ≡ Ok v.items) (λ e. IfRefused e (λ r. read ≡ Err r))
-    }
+    ensures { let read = links_in nodes count None cursor.entry.size cursor.entry.bytes.now in
+        MatchResult result (λ v. read ≡ Ok v.items) (λ e. IfRefused e (λ r. read ≡ Err r)) }
 {
     let mut links = Vec::new(heap);
     let mut rest = cursor;
@@ -63,10 +61,8 @@ fn parse_rest(heap: Global, cursor: Cursor, nodes: u8, count: u16) -> Result<Vec
 
 /// The link in front, and the bytes after it.
 fn next_link(bytes: &[u8]) -> Option<(Link, &[u8])>
-    ensures {
-        let front = link_at bytes.now in
-        MatchOption result (IsErrOf front ReadFault.Truncated) (λ p. front ≡ Ok (p.0, p.1.now))
-    }
+    ensures { let front = link_at bytes.now in
+        MatchOption result (IsErrOf front ReadFault.Truncated) (λ p. front ≡ Ok (p.0, p.1.now)) }
 {
     let [a, b, high, low, rest @ ..] = bytes else {
         return None;

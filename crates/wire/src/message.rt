@@ -27,10 +27,8 @@ pub fn parse_message(bytes: &[u8], nodes: u8) -> Result<Message, ReadError>
 
 /// The message in front, and the bytes after it.
 fn next_message(bytes: &[u8]) -> Option<(Message, &[u8])>
-    ensures {
-        let front = message_at bytes.now in
-        MatchOption result (IsErr front) (λ p. front ≡ Ok (p.0, p.1.now))
-    }
+    ensures { let front = message_at bytes.now in
+        MatchOption result (IsErr front) (λ p. front ≡ Ok (p.0, p.1.now)) }
 {
     match bytes {
         [LINK_DOWN, a, b, rest @ ..] => Some((Message::LinkDown(link_of(*a, *b)), rest)),
@@ -95,15 +93,11 @@ pub fn emit_message(message: &Message, out: &mut Vec<u8>) -> Result<(), AllocErr
     ensures ok { OnOk result (out.new.items ≡ out.old.items ++ message_bytes message.now) }
     ensures err { OnErr result (out.new.items ≡ out.old.items) }
 
-    // What is written of a lawful message reads as that message, and of one that is lawful once its link is turned, as that.
-    ensures back {
-        (n : ℕ) → MessageLawful n message.now →
-        message_in n (message_bytes message.now) ≡ Ok message.now
-    }
-    ensures turned {
-        let turned = ordered message.now in
-        (n : ℕ) → MessageLawful n turned → message_in n (message_bytes message.now) ≡ Ok turned
-    }
+    // A lawful message reads back as it is, and one that is lawful once its link is turned reads back turned.
+    ensures back { (n : ℕ) → MessageLawful n message.now →
+        message_in n (message_bytes message.now) ≡ Ok message.now }
+    ensures turned { let turned = ordered message.now in
+        (n : ℕ) → MessageLawful n turned → message_in n (message_bytes message.now) ≡ Ok turned }
 {
     match message {
         Message::LinkDown(link) => {

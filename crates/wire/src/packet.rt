@@ -61,11 +61,9 @@ fn check_header(
 /// rest of the bytes.
 fn parse_segments(cursor: Cursor, nodes: u8, count: u8, packet: Packet) -> Result<Packet, ReadError>
     requires { length (packet_of packet).segments + count ≤ 5 }
-    ensures {
-        let p = packet_of packet in
+    ensures { let p = packet_of packet in
         let read = segments_in nodes count None cursor.entry.size cursor.entry.bytes.now in
-        read_as packet_of result ≡ read_as (λ ss. with_segments p (p.segments ++ ss)) read
-    }
+        read_as packet_of result ≡ read_as (λ ss. with_segments p (p.segments ++ ss)) read }
 {
     let mut longer = packet;
     let mut rest = cursor;
@@ -86,12 +84,12 @@ fn parse_segments(cursor: Cursor, nodes: u8, count: u8, packet: Packet) -> Resul
 
 /// Puts a packet behind what is written already. It reads back as the same one.
 pub fn emit_packet(packet: &Packet, out: &mut Vec<u8>) -> Result<(), AllocError>
-    ensures ok { OnOk result (out.new.items ≡ out.old.items ++ packet_bytes (packet_of packet.now)) }
+    ensures ok { let bytes = packet_bytes (packet_of packet.now) in
+        OnOk result (out.new.items ≡ out.old.items ++ bytes) }
     ensures err { OnErr result (out.new.items ≡ out.old.items) }
-    ensures back {
-        let p = packet_of packet.now in
-        (origin : Source) (n : ℕ) → PacketLawful origin n p → packet_in origin n (packet_bytes p) ≡ Ok p
-    }
+    ensures back { let p = packet_of packet.now in
+        (origin : Source) (n : ℕ) → PacketLawful origin n p →
+        packet_in origin n (packet_bytes p) ≡ Ok p }
 {
     let before = out.len();
     let emitted = emit_parts(packet, out);
@@ -101,9 +99,10 @@ pub fn emit_packet(packet: &Packet, out: &mut Vec<u8>) -> Result<(), AllocError>
     emitted
 }
 
-/// Where memory is wanting, some bytes may stand there.
+/// Puts the header and the segments behind what is written already. On an `Err` some of the bytes may stand there.
 fn emit_parts(packet: &Packet, out: &mut Vec<u8>) -> Result<(), AllocError>
-    ensures ok { OnOk result (out.new.items ≡ out.old.items ++ packet_bytes (packet_of packet.now)) }
+    ensures ok { let bytes = packet_bytes (packet_of packet.now) in
+        OnOk result (out.new.items ≡ out.old.items ++ bytes) }
     ensures err { OnErr result ((some : List ℕ) × (out.new.items ≡ out.old.items ++ some)) }
 {
     let [high, low] = packet.hop_limit().to_be_bytes();

@@ -14,10 +14,8 @@ const LINK: u8 = 1;
 
 /// The segment in front, and the bytes after it.
 pub(crate) fn next_segment(bytes: &[u8]) -> Option<(Segment, &[u8])>
-    ensures {
-        let front = segment_at bytes.now in
-        MatchOption result (IsErr front) (λ p. front ≡ Ok (p.0, p.1.now))
-    }
+    ensures { let front = segment_at bytes.now in
+        MatchOption result (IsErr front) (λ p. front ≡ Ok (p.0, p.1.now)) }
 {
     match bytes {
         [NODE, node, rest @ ..] => Some((Segment::Node(NodeId(*node)), rest)),
@@ -52,9 +50,10 @@ pub(crate) fn check_segment(nodes: u8, segment: &Segment) -> Result<(), ReadFaul
     }
 }
 
-/// Puts segments behind what is written already. Where memory is wanting, some of them may stand there.
+/// Puts segments behind what is written already. On an `Err` some of them may stand there.
 pub(crate) fn emit_segments(segments: &[Segment], out: &mut Vec<u8>) -> Result<(), AllocError>
-    ensures ok { OnOk result (out.new.items ≡ out.old.items ++ flat_map segment_bytes segments.now) }
+    ensures ok { let bytes = flat_map segment_bytes segments.now in
+        OnOk result (out.new.items ≡ out.old.items ++ bytes) }
     ensures err { OnErr result ((some : List ℕ) × (out.new.items ≡ out.old.items ++ some)) }
 {
     for segment in segments {

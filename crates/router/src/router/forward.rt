@@ -9,7 +9,7 @@ ghost use Rattle.types.specs.Packet.{packet_of};
 use super::Router;
 use crate::outcome::Outcome;
 use repairs::{Entry, Repair};
-use routes::matrix::cell;
+use routes::cell;
 use std::ops::ControlFlow;
 use types::{DropReason, NodeId, Packet, Segment};
 

@@ -1,10 +1,11 @@
-ghost use Rattle.std.specs.Prelude.{◌≡◌, ℕ, ◌+◌, ◌<◌, ◌≤◌, ◌++◌, None, IfErr, OnErr, OnOk, is_ok, vec_capacity, vec_len};
+ghost use Rattle.std.specs.Prelude.{◌≡◌, ℕ, ◌+◌, ◌<◌, ◌≤◌, ◌++◌, None, IfErr, OnErr, OnOk, is_ok, nat_lt, vec_capacity, vec_len};
 ghost use Rattle.protocol.specs.Hearing.{awaited, came_early, hear, hear_down, hear_switched, learn, switched_while, tell, waits_for};
 ghost use Rattle.protocol.specs.Router.{among, pending_in};
 ghost use Rattle.router.specs.Hearing.{tell_one, IsSetOf, Quietly, Unwaits};
 ghost use Rattle.router.specs.Model.{model};
 ghost use Rattle.router.specs.Replies.{Answered, Judged, Unchanged};
 ghost use Rattle.router.specs.Transition.{in_set_of};
+ghost use Rattle.theory.specs.Network.{without};
 ghost use Rattle.types.specs.declared.fault.Refusal.TheVariants.{NotPending};
 
 use super::Router;
@@ -14,7 +15,7 @@ use crate::tables::own_hops;
 use crate::transition::Transition;
 use std::alloc::AllocError;
 use std::array;
-use types::{LinkId, MAX_NODES, Message, NodeId, NodeSet, Refusal, Sent, Switched};
+use types::{Change, LinkId, MAX_NODES, Message, NodeId, NodeSet, Refusal, Sent, Switched};
 
 impl Router {
     /// It hears a message from a neighbour. What it says is put behind what was said before.
@@ -78,7 +79,7 @@ impl Router {
     {
         said.reserve(MAX_NODES)?;
         self.tell(link, said);
-        let surviving = self.routes.without(link);
+        let surviving = self.routes.changed(Change::LinkFails(link));
         let transition = Transition {
             link,
             hops: own_hops(&surviving, self.me),
@@ -153,14 +154,20 @@ impl Router {
         ensures len { vec_len said.new ≤ vec_len said.old + 1 }
         ensures capacity { vec_capacity said.new ≡ vec_capacity said.old }
     {
-        let me = self.me;
-        if !link.joins(me, to) && self.link_cost(me, to).is_some() {
+        if self.reaches(link, to) {
             said.push_reserved(Sent {
-                from: me,
+                from: self.me,
                 to,
                 message: Message::LinkDown(link),
             });
         }
+    }
+
+    /// Does it have a link to the node that isn't this one?
+    fn reaches(&self, link: LinkId, to: NodeId) -> bool
+        ensures { result ≡ nat_lt 0 ((without link (model self.now).links).cost (model self.now).me to) }
+    {
+        !link.joins(self.me, to) && self.link_cost(self.me, to).is_some()
     }
 
     /// A Switched message must come from who says it, and not be for a link that was taken out.

@@ -8,7 +8,7 @@ ghost use Rattle.router.specs.Switching.{told, Switches, TakesOut};
 use super::Router;
 use crate::tables::own_repairs;
 use std::alloc::AllocError;
-use types::{LinkId, Message, NodeId, Sent, Switched};
+use types::{Change, LinkId, Message, NodeId, Sent, Switched};
 
 impl Router {
     /// It switches for a destination if it may, and says so to its old next hop, behind what was said before.
@@ -84,7 +84,7 @@ impl Router {
         ensures memory { OnErr result (model self.new ≡ model self.old) }
     {
         self.removed.push(link)?;
-        self.routes = self.routes.without(link);
+        self.routes = self.routes.changed(Change::LinkFails(link));
         self.repairs = own_repairs(&self.routes, self.me);
         self.transition = None;
         self.early.clear();

@@ -12,7 +12,11 @@ few_links : (n : ℕ) (ls : List Link) → n ≤ 64 → rising n ls ≡ true →
 few_links n ls h t = omega (arith, rising_few n start ls h (omega arith) (omega arith) t)
 
 pub overflow_cast-links : goal.overflow_cast-links
-overflow_cast-links c = record { fits = omega (arith, few_links c.nodes-nodes.result c.links-links.result.now c.nodes-nodes.ensures.bounds.1 (rw c.nodes-nodes.ensures.value c.links-links.ensures.ordered)) }
+overflow_cast-links c =
+    let n = c.nodes-nodes.result in
+    let ls = c.links-links.result.now in
+    let o : rising n ls ≡ true = rw c.nodes-nodes.ensures.value c.links-links.ensures.ordered in
+    record { fits = omega (arith, few_links n ls c.nodes-nodes.ensures.bounds.1 o) }
 
 pub returns : goal.returns
 returns c =
@@ -20,7 +24,18 @@ returns c =
     let ls = c.links-links.result.now in
     let o : rising x.nodes x.links ≡ true = rw (← c.links-links.ensures.value) c.links-links.ensures.ordered in
     let b : IsNodeCount x.nodes = rw (← c.nodes-nodes.ensures.value) c.nodes-nodes.ensures.bounds in
-    let k : length ls / 256 % 256 ≡ length ls / 256 = omega (arith, few_links x.nodes ls b.1 c.links-links.ensures.ordered) in
-    let v : vec_items c.loop-link.out ≡ list_bytes x =
-    rw (c.loop-link.invariant, c.in_ok-extend_from_slice.ensures.items, c.new-out.ensures.items, c.to_be_bytes.ensures, k, take_all c.loop-link.link-index ls c.loop-link-test.false, c.nodes-nodes.ensures.value, c.links-links.ensures.value) in
+    let few = few_links x.nodes ls b.1 c.links-links.ensures.ordered in
+    let high : length ls / 256 % 256 ≡ length ls / 256 = omega (arith, few) in
+    let all = take_all c.loop-link.link-index ls c.loop-link-test.false in
+    let begun = c.in_ok-extend_from_slice.ensures.items in
+    let v : vec_items c.loop-link.out ≡ list_bytes x = rw (
+      c.loop-link.invariant,
+      begun,
+      c.new-out.ensures.items,
+      c.to_be_bytes.ensures,
+      high,
+      all,
+      c.nodes-nodes.ensures.value,
+      c.links-links.ensures.value,
+    ) in
     record { value = v; back = ap list_in v ∙ list_back x b o }

@@ -2,9 +2,9 @@ use Rattle.std.proofs.Common.{◌≡◌, ◌<◌, ◌+◌, ◌-◌, length, None
 use Rattle.std.proofs.lemmas.Result.{err_from_is_err_and}
 use Rattle.types.specs.Packet.{packet_of, with_segments}
 use Rattle.wire.specs.Cursor.{placed, read_as}
-use Rattle.wire.specs.Packets.{segment_at, segment_fault, segments_in}
+use Rattle.wire.specs.Packets.{segment_at, segments_in}
 use Rattle.wire.proofs.Pieces.{all_read, left_over, nothing_there, refused_here, read_one}
-use Rattle.wire.proofs.PacketBytes.{with_more, longer_fits, one_more}
+use Rattle.wire.proofs.PacketBytes.{faults, with_more, longer_fits, more_behind}
 use Rattle.wire.proofs.packet.parse_segments.Goals as goal
 
 pub loop-init : goal.loop-init
@@ -12,43 +12,46 @@ loop-init c = let z : c.args.count - 0 ≡ c.args.count = omega arith in (None, 
 
 pub returns-in_default : goal.returns-in_default
 returns-in_default c =
-    let i = c.loop.invariant in
-    let e = nothing_there segment_at (λ _ s. segment_fault c.args.nodes s) (c.args.count - c.loop.counter) i.0 c.loop.rest.size c.loop.rest.bytes.now c.no_segment.result c.refuse.result (omega arith) (c.no_segment.ensures c.in_default.ensures) c.refuse.ensures in
-    sym (ap (read_as (with_more (packet_of c.loop.longer))) e) ∙ i.1
+    let n = c.args.nodes in
+    let f = c.no_segment.ensures c.in_default.ensures in
+    nothing_there segment_at (faults n) _ _ _ _ _ _ c.loop.invariant.1 _ _ (omega arith) f c.refuse.ensures
 
 pub returns-in_err-piece : goal.returns-in_err-piece
 returns-in_err-piece c =
-    let i = c.loop.invariant in
-    let bs = c.loop.rest.bytes.now in
+    let n = c.args.nodes in
     let p = err_from_is_err_and c.from_residual.result c.from_residual.ensures.1 in
-    let e = refused_here segment_at (λ _ s. segment_fault c.args.nodes s) (c.args.count - c.loop.counter) i.0 c.loop.rest.size bs (c.in-Some.segment, c.in-Some.more.now) c.in_err-piece.field-0.0 (omega arith) c.in-Some.ensures (c.in_err-piece.ensures ∙ ap (placed (c.loop.rest.size - length bs)) c.check_segment.ensures) in
-    rw (p.1, p.2) (sym (ap (read_as (with_more (packet_of c.loop.longer))) e) ∙ i.1)
+    let f = c.in_err-piece.ensures ∙ ap (placed _) c.check_segment.ensures in
+    rw (p.1, p.2)
+    (refused_here segment_at (faults n) _ _ _ _ _ _ c.loop.invariant.1 _ _ (omega arith) c.in-Some.ensures f)
 
 pub loop-preserved : goal.loop-preserved
 loop-preserved c =
-    let i = c.loop.invariant in
-    let bs = c.loop.rest.bytes.now in
+    let n = c.args.nodes in
     let s = c.in-Some.segment in
     let left = c.args.count - (c.loop.counter + 1) in
     let p = packet_of c.loop.longer in
     let q = packet_of c.in-Some-with_last.next in
-    let h : length p.segments < 5 = omega (arith, i.2) in
-    let f = longer_fits p q s h c.in-Some-with_last.ensures in
-    let e = read_one segment_at (λ _ x. segment_fault c.args.nodes x) (c.args.count - c.loop.counter) left i.0 c.loop.rest.size bs (s, c.in-Some.more.now) (omega arith) c.in-Some.ensures (c.in_ok-piece.ensures ∙ ap (placed (c.loop.rest.size - length bs)) c.check_segment.ensures) in
-    let a = ap₂ (λ m rest. read_as (with_more q) (segments_in c.args.nodes left (Some s) m rest)) c.after-rest.ensures.size c.after-rest.ensures.rest in
-    let l = ap (λ v. length v.segments) f ∙ length-append p.segments _ in
-    (Some s, a ∙ (sym (one_more p q s _ f) ∙ (sym (ap (read_as (with_more p)) e) ∙ i.1)), omega (arith, i.2, l))
+    let room : length p.segments < 5 = omega (arith, c.loop.invariant.2) in
+    let e = longer_fits p q s room c.in-Some-with_last.ensures in
+    let few = ap (λ v. length v.segments) e ∙ length-append p.segments _ in
+    let f = c.in_ok-piece.ensures ∙ ap (placed _) c.check_segment.ensures in
+    let a = c.after-rest.ensures in
+    let rest = ap₂ (λ m bs. read_as (with_more q) (segments_in n left (Some s) m bs)) a.size a.rest in
+    let more = more_behind p q s e in
+    let i = c.loop.invariant.1 in
+    let r = read_one segment_at (faults n) _ _ _ _ _ _ i (with_more q) left _ (omega arith) c.in-Some.ensures f more in
+    (Some s, rest ∙ r, omega (arith, c.loop.invariant.2, few))
 
 pub returns-in_err-end : goal.returns-in_err-end
 returns-in_err-end c =
-    let i = c.loop.invariant in
+    let n = c.args.nodes in
     let p = err_from_is_err_and c.from_residual-in_err-end.result c.from_residual-in_err-end.ensures.1 in
-    let e = left_over segment_at (λ _ s. segment_fault c.args.nodes s) (c.args.count - c.loop.counter) i.0 c.loop.rest.size c.loop.rest.bytes.now c.in_err-end.field-0.0 (omega arith) c.in_err-end.ensures in
-    rw (p.1, p.2) (sym (ap (read_as (with_more (packet_of c.loop.longer))) e) ∙ i.1)
+    rw (p.1, p.2)
+    (left_over segment_at (faults n) _ _ _ _ _ _ c.loop.invariant.1 _ (omega arith) c.in_err-end.ensures)
 
 pub returns : goal.returns
 returns c =
-    let i = c.loop.invariant in
+    let n = c.args.nodes in
     let p = packet_of c.loop.longer in
-    let e = all_read segment_at (λ _ s. segment_fault c.args.nodes s) (c.args.count - c.loop.counter) i.0 c.loop.rest.size c.loop.rest.bytes.now (omega arith) c.in_ok-end.ensures in
-    ap (λ ss. Ok (with_segments p ss)) (sym (append-nil p.segments)) ∙ (sym (ap (read_as (with_more p)) e) ∙ i.1)
+    ap (λ ss. Ok (with_segments p ss)) (sym (append-nil p.segments)) ∙
+    all_read segment_at (faults n) _ _ _ _ _ _ c.loop.invariant.1 (omega arith) c.in_ok-end.ensures

@@ -4,7 +4,6 @@ use Rattle.router.proofs.Awaited.{upto_with, upto_without, upto_all, awaited_out
 use Rattle.router.proofs.router.Router.awaited_for.Goals as goal
 use Rattle.router.proofs.router.Router.awaited_for.Goals.{then-awaits, else-awaits}
 use Rattle.router.specs.Model.{model}
-use Rattle.routes.proofs.Costs.{matrix_lawful}
 use Rattle.types.specs.NodeSets.{has}
 
 pub loop-u-preserved : goal.loop-u-preserved
@@ -19,4 +18,4 @@ pub returns : goal.returns
 returns c =
     let r = c.args.self.now in
     let s = model r in
-    record { each = upto_all s.links.n c.loop-u.u (awaited s c.args.link c.args.destination) (has c.loop-u.set) (omega arith) (λ v h. awaited_outside s (matrix_lawful r.routes.costs) c.args.link c.args.destination v (inr h)) c.loop-u.invariant }
+    record { each = upto_all s.links.n c.loop-u.u (awaited s c.args.link c.args.destination) (has c.loop-u.set) (omega arith) (λ v h. awaited_outside s (r.routes.costs.lawful) c.args.link c.args.destination v (inr h)) c.loop-u.invariant }

@@ -4,7 +4,6 @@ use Rattle.router.proofs.Learnt.{learnt}
 use Rattle.router.proofs.router.Router.learn.Goals as goal
 use Rattle.router.specs.Model.{model}
 use Rattle.router.specs.Tables.{OwnHops}
-use Rattle.routes.proofs.Costs.{matrix_lawful}
 use Rattle.routes.specs.Routes.{routes_network}
 use Rattle.theory.specs.Network.{Network}
 
@@ -16,6 +15,6 @@ invariant_of-self c =
       repaired = r.repaired;
       under_way =
           learnt (routes_network r.routes) r.me (record { link = c.args.link; hops = c.own_hops.result; switched = c.empty.result; pending = c.awaited.result })
-          (subst (λ (z : Network). OwnHops z r.me z.n c.own_hops.result) c.without-surviving.ensures c.own_hops.ensures)
-          (λ d u h. c.awaited.ensures d u ∙ awaited_outside (model r) (matrix_lawful r.routes.costs) c.args.link d u h);
+          (subst (λ (z : Network). OwnHops z r.me z.n c.own_hops.result) c.changed-surviving.ensures c.own_hops.ensures)
+          (λ d u h. c.awaited.ensures d u ∙ awaited_outside (model r) (r.routes.costs.lawful) c.args.link d u h);
     }

@@ -1,6 +1,7 @@
+use Rattle.types.specs.Change.{changed}
 use Rattle.routes.specs.Routes.{routes_network}
 use Rattle.routes.specs.Touched.{Sorted}
 use Rattle.routes.proofs.routes.Routes.senders.Given as goal
 
 abbrev pub invariant-loop-a : goal.invariant-loop-a
-invariant-loop-a l = Sorted (routes_network l.self) l.link l.d l.a l.senders
+invariant-loop-a l = let z = routes_network l.self in Sorted z (changed l.change z) l.d l.a l.senders

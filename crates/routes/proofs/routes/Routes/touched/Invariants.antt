@@ -6,7 +6,7 @@ use Rattle.routes.proofs.TouchedNodes.{Found}
 use Rattle.routes.proofs.routes.Routes.touched.Given as goal
 
 abbrev pub invariant-loop-a : goal.invariant-loop-a
-invariant-loop-a l = Found (routes_network l.self) l.fn.link l.fn.d l.touched l.rest
+invariant-loop-a l = Found (routes_network l.self) l.change l.fn.d l.touched l.rest
 
 -- each step one node more is done
 abbrev pub decreases-loop-a : goal.decreases-loop-a

@@ -8,4 +8,6 @@ pub returns-then-n-ge64 : goal.returns-then-n-ge64
 returns-then-n-ge64 c v = all_has c.args.n v (search rules)
 
 pub returns : goal.returns
-returns c v = ap (λ x. has (record { 0 = x - 1 }) v) (one_shl c.args.n 64 c.if-n-ge64.false) ∙ below_has c.args.n v (omega (arith, c.if-n-ge64.false))
+returns c v =
+    ap (λ x. has (record { 0 = x - 1 }) v) (one_shl c.args.n 64 c.if-n-ge64.false) ∙
+    below_has c.args.n v (omega (arith, c.if-n-ge64.false))

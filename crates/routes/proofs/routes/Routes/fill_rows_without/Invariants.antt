@@ -1,8 +1,0 @@
-use Rattle.theory.specs.Network.{without}
-use Rattle.routes.specs.Distances.{DistanceRows}
-use Rattle.routes.specs.NextHops.{HopRows}
-use Rattle.routes.specs.Routes.{routes_network}
-use Rattle.routes.proofs.routes.Routes.fill_rows_without.Given as goal
-
-abbrev pub invariant-loop-d : goal.invariant-loop-d
-invariant-loop-d l = let y = without l.link (routes_network l.self) in DistanceRows y l.d l.dist × HopRows y l.d l.hops
