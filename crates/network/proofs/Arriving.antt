@@ -1,10 +1,11 @@
 -- Messages that arrive.
 use Rattle.std.proofs.Common.{◌≡◌, ℕ, zero, suc, ◌<◌, Bool, true, false, cond, ◌||◌, eqb, ltb, List, [], ◌∷◌, length, get_or, set, Some, Ok, Err, OnOk, Result, vec_items, sym, refl, ap, ◌∙◌, subst, ap₂, inl, inr, arith}
 use mathlib.Core.Path.{fun_ext}
-use Rattle.network.specs.Arrival.{arrival_in, has_come, is_over, SameArrivals}
-use Rattle.network.specs.Errors.{wants_memory, IfRefused, OnMemory, UnlessMemory}
+use Rattle.network.proofs.Failing.{becomes_same, then}
+use Rattle.network.proofs.Replies.{Goes}
+use Rattle.network.specs.Arrival.{arrival_in, has_come, is_over}
+use Rattle.network.specs.Errors.{IfRefused, OnMemory, UnlessMemory}
 use Rattle.network.specs.Events.{is_message_under_way, reply_in, reply_to, Arrives, Becomes, Beside, IsAccepted, Unchanged}
-use Rattle.network.specs.Hearing as hearing
 use Rattle.network.specs.Model.{system}
 use Rattle.network.specs.declared.arrival.Arrival.{Arrival}
 use Rattle.network.specs.declared.arrival.Arrival.TheVariants.{NotYet}
@@ -24,6 +25,10 @@ unfolding nth
 nth_at [] k m l e = absurd (omega arith)
 nth_at (x ∷ ms) zero m l e = ap Some (sym e)
 nth_at (x ∷ ms) (suc k) m l e = nth_at ms k m (omega arith) e
+
+-- other entries, which say the same of each message
+abbrev pub SameArrivals : (old new : List Arrival) → Type 0
+SameArrivals old new = (k : ℕ) → arrival_in new k ≡ arrival_in old k
 
 abbrev with_came : (ℕ → Bool) → System → System
 with_came f σ = record σ { came = f }
@@ -63,9 +68,9 @@ pub record Marks (k : ℕ) (then : Arrival) (old mid far new : Network) : Type 0
   pub beside : Beside far new
   pub mark : vec_items new.arrivals ≡ set (vec_items far.arrivals) k then
 
-pub marks : (k : ℕ) (m : Sent) (then : Arrival) (old mid far new : Network) {A : Type 0} (o : Result A RouterError) → Marks k then old mid far new → m ≡ get_or (vec_items old.said) k m →
-    hearing.Goes m.to (hear ((system mid).routers m.to) m.from m.message) mid far o → wants_memory o ≡ false → Brings k (is_over then) old new o
-marks k m then old mid far new o M e h n = by o h n
+pub marks : (k : ℕ) (m : Sent) (then : Arrival) (old mid far new : Network) (b : Bool) {A : Type 0} (o : Result A RouterError) → Marks k then old mid far new → m ≡ get_or (vec_items old.said) k m →
+    Goes m.to (hear ((system mid).routers m.to) m.from m.message) mid far o → OnMemory o (b ≡ true) → b ≡ false → Brings k (is_over then) old new o
+marks k m then old mid far new b o M e h w n = by o h w
   where
     σ : System
     σ = system old
@@ -100,38 +105,28 @@ marks k m then old mid far new o M e h n = by o h n
     answer : reply_to k σ ≡ reply (system mid)
     answer = ap (reply_in σ) here ∙ sym (ap reply M.before.is)
 
-    by : {A : Type 0} (o : Result A RouterError) → hearing.Goes m.to (reply (system mid)) mid far o → wants_memory o ≡ false → Brings k (is_over then) old new o
-    by (Ok x) h n =
+    by : {A : Type 0} (o : Result A RouterError) → Goes m.to (reply (system mid)) mid far o → OnMemory o (b ≡ true) → Brings k (is_over then) old new o
+    by (Ok x) h w =
         record {
-          arrives = arrives (go_on (system mid) m.to (system mid).came (reply (system mid))) h.0 (ap (λ τ. with_came g (go_on τ m.to τ.came (reply τ))) M.before.is ∙ came_on σ m.to σ.came g (reply σ));
-          accepted = subst IsAccepted (sym answer) h.1;
+          arrives = arrives (go_on (system mid) m.to (system mid).came (reply (system mid))) h.ok (ap (λ τ. with_came g (go_on τ m.to τ.came (reply τ))) M.before.is ∙ came_on σ m.to σ.came g (reply σ));
+          accepted = subst IsAccepted (sym answer) h.accepted;
           refused = tt;
           memory = tt;
         }
-    by (Err (Refused f)) h n =
+    by (Err (Refused f)) h w =
         record {
-          arrives = arrives (system mid) h.0 (ap (with_came g) M.before.is ∙ ap (go_on σ m.to g) (sym (sym (ap reply M.before.is) ∙ h.1)));
+          arrives = arrives (system mid) h.unchanged (ap (with_came g) M.before.is ∙ ap (go_on σ m.to g) (sym (sym (ap reply M.before.is) ∙ h.refused)));
           accepted = tt;
-          refused = answer ∙ h.1;
+          refused = answer ∙ h.refused;
           memory = tt;
         }
-    by (Err (Memory e)) h n = absurd (both_ways true n refl)
+    by (Err (Memory e)) h w = absurd (both_ways b n w)
 
 -- where memory is wanting nothing has arrived
-pub unmarked : (k : ℕ) (over : Bool) (old mid far : Network) {A : Type 0} (o : Result A RouterError) → Unchanged old mid → (u : ℕ) (r : protocol.Reply) → hearing.Goes u r mid far o → wants_memory o ≡ true → Brings k over old far o
-unmarked k over old mid far (Ok x) b u r h e = absurd (both_ways false refl e)
-unmarked k over old mid far (Err (Refused f)) b u r h e = absurd (both_ways false refl e)
-unmarked k over old mid far (Err (Memory x)) b u r h e =
-    record {
-      arrives = tt;
-      accepted = tt;
-      refused = tt;
-      memory = record {
-        is = h.is ∙ b.is;
-        beside = record { nodes = h.beside.nodes ∙ b.beside.nodes; packets = h.beside.packets ∙ b.beside.packets; paths = λ p. h.beside.paths p ∙ b.beside.paths p };
-        over = λ j. h.over j ∙ b.over j;
-      };
-    }
+pub unmarked : (k : ℕ) (over : Bool) (old mid far : Network) (b : Bool) {A : Type 0} (o : Result A RouterError) → Unchanged old mid → (u : ℕ) (r : protocol.Reply) → Goes u r mid far o → UnlessMemory o (b ≡ false) → b ≡ true → Brings k over old far o
+unmarked k over old mid far b (Ok x) a u r h w n = absurd (both_ways b w n)
+unmarked k over old mid far b (Err (Refused f)) a u r h w n = absurd (both_ways b w n)
+unmarked k over old mid far b (Err (Memory x)) a u r h w n = record { arrives = tt; accepted = tt; refused = tt; memory = becomes_same old far _ _ a.is (then old mid far _ _ a h.unchanged) }
 
 -- the same arrivals make the same system
 pub room_made : (old new : Network) → SameArrivals (vec_items old.arrivals) (vec_items new.arrivals) → system new ≡ with_came (λ k. has_come (arrival_in (vec_items new.arrivals) k)) (system old) → Beside old new → Unchanged old new

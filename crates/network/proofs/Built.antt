@@ -5,7 +5,7 @@ use Rattle.links.specs.Links.{IsNodeCount}
 use Rattle.network.proofs.Replies.{no_router, Placed}
 use Rattle.network.proofs.Sets.{push_all}
 use Rattle.network.specs.Model.{begun, system_of}
-use Rattle.network.specs.Places.{outside, router_at, AllIdle}
+use Rattle.network.specs.Places.{outside, router_at}
 use Rattle.network.specs.declared.arrival.Arrival.{Arrival}
 use Rattle.network.specs.declared.flight.Flight.{Flight}
 use Rattle.protocol.specs.Failed.{Calm}
@@ -17,6 +17,11 @@ use Rattle.std.proofs.lemmas.Bool.{both_ways, cond-true, cond_both, lt-ltb, ltb-
 use Rattle.std.proofs.lemmas.List.{length_push}
 use Rattle.theory.specs.Network as theory
 use Rattle.types.specs.declared.message.Sent.{Sent}
+
+-- there is a router for each of the first k nodes, which has been given the list z
+pub record AllIdle (z : theory.Network) (k : ℕ) (rs : List Router) : Type 0 where
+  pub count : length rs ≡ k
+  pub each : (u : ℕ) → u < k → router_at rs u ≡ idle z [] u
 
 pub idle_none : (z : theory.Network) (rs : List Router) → rs ≡ [] → AllIdle z 0 rs
 idle_none z rs e = record { count = ap length e; each = λ u l. absurd (omega arith) }

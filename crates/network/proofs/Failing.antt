@@ -1,8 +1,8 @@
 -- A link fails, and its ends notice.
 use Rattle.std.proofs.Common.{◌≡◌, ◌≢◌, ℕ, Bool, eqb, ◌⊎◌, Ok, Err, OnOk, Result, sym, refl, ap, ◌∙◌, subst, inl, inr}
+use Rattle.network.proofs.Replies.{Goes}
 use Rattle.network.specs.Errors.{IfRefused, OnMemory}
 use Rattle.network.specs.Events.{Becomes, Beside, BothEndsAccept, IsAccepted, OneEndRefuses, Unchanged}
-use Rattle.network.specs.Hearing as hearing
 use Rattle.network.specs.Model.{system}
 use Rattle.network.specs.declared.network.Network.{Network}
 use Rattle.protocol.specs.Hearing.{hear, hear_down}
@@ -51,27 +51,27 @@ pub record Fails (l : LinkId) (old new : Network) {A : Type 0} (o : Result A Rou
 
 -- the first end notices, and then maybe the second
 hear_both : (l : LinkId) (old mid new : Network) (p q : Report) {A : Type 0} (o : Result A RouterError) → l.a ≢ l.b → Judged l ((system old).routers l.a) (Ok p) → Judged l ((system old).routers l.b) (Ok q) →
-    Becomes old mid (notices l l.a (system old)) → hearing.Goes l.b (hear_down l ((system mid).routers l.b)) mid new o → Fails l old new o
+    Becomes old mid (notices l l.a (system old)) → Goes l.b (hear_down l ((system mid).routers l.b)) mid new o → Fails l old new o
 hear_both l old mid new p q (Ok x) n i j b h =
     record {
-      fails = becomes_same old new _ _ (ap (notices l l.b) b.is) (then old mid new _ _ b h.0);
+      fails = becomes_same old new _ _ (ap (notices l l.b) b.is) (then old mid new _ _ b h.ok);
       accepted = (accepts l ((system old).routers l.a) p i, accepts l ((system old).routers l.b) q j);
       refused = tt;
       unchanged = tt;
       memory = tt;
     }
 hear_both l old mid new p q (Err (Memory e)) n i j b h =
-    record { fails = tt; accepted = tt; refused = tt; unchanged = tt; memory = inr (becomes_same old new _ _ b.is (then old mid new _ _ b h)) }
+    record { fails = tt; accepted = tt; refused = tt; unchanged = tt; memory = inr (becomes_same old new _ _ b.is (then old mid new _ _ b h.unchanged)) }
 hear_both l old mid new p q (Err (Refused f)) n i j b h =
     let same : (system mid).routers l.b ≡ (system old).routers l.b = ap (λ (σ : System). σ.routers l.b) b.is ∙ other_router (system old) l.a l.b _ (hear ((system old).routers l.a) l.a (LinkDown l)) (λ e. n (sym e)) in
-    absurd (subst IsAccepted (subst (λ s. hear_down l s ≡ protocol.Refused f) same h.1) (accepts l ((system old).routers l.b) q j))
+    absurd (subst IsAccepted (subst (λ s. hear_down l s ≡ protocol.Refused f) same h.refused) (accepts l ((system old).routers l.b) q j))
 
 -- of a link with these ends
 pub both_hear : (a b : ℕ) (l : LinkId) (old mid new : Network) (p q : Report) {A : Type 0} (o : Result A RouterError) → record { a = a; b = b } ≡ l → l.a ≢ l.b → Judged l ((system old).routers a) (Ok p) → Judged l ((system old).routers b) (Ok q) →
-    Becomes old mid (go_on (system old) a (system old).came (hear_down l ((system old).routers a))) → hearing.Goes b (hear_down l ((system mid).routers b)) mid new o → Fails l old new o
+    Becomes old mid (go_on (system old) a (system old).came (hear_down l ((system old).routers a))) → Goes b (hear_down l ((system mid).routers b)) mid new o → Fails l old new o
 both_hear a b l old mid new p q o e n i j c h =
     hear_both l old mid new p q o n (subst (λ v. Judged l ((system old).routers v) (Ok p)) x i) (subst (λ v. Judged l ((system old).routers v) (Ok q)) y j)
-    (subst (λ v. Becomes old mid (go_on (system old) v (system old).came (hear_down l ((system old).routers v)))) x c) (subst (λ v. hearing.Goes v (hear_down l ((system mid).routers v)) mid new o) y h)
+    (subst (λ v. Becomes old mid (go_on (system old) v (system old).came (hear_down l ((system old).routers v)))) x c) (subst (λ v. Goes v (hear_down l ((system mid).routers v)) mid new o) y h)
   where
     x : a ≡ l.a
     x = ap (λ (k : LinkId). k.a) e

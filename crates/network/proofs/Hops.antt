@@ -19,7 +19,7 @@ use Rattle.protocol.specs.System as system
 use Rattle.protocol.specs.System.{System, decided, moved, put_on, step, Hop, Put}
 use Rattle.router.specs.Model.{model}
 use Rattle.router.specs.declared.router.Router.{Router}
-use Rattle.routes.proofs.Costs.{matrix_lawful}
+use Rattle.routes.proofs.Changes.{routes_lawful}
 use Rattle.std.proofs.lemmas.Bool.{cond-false, cond-true, eq-eqb, ne_eqb}
 use Rattle.std.proofs.lemmas.List.{get_or_past, length-map, length_push}
 use Rattle.types.specs.Packet.{Packet}
@@ -143,7 +143,7 @@ moved_inside n r (system.UnderWay u c p) e h = by (forward (model r) p) refl
   where
     by : (d : Decision) → forward (model r) p ≡ d → node_in (decided (model r) u c d) < n
     by Deliver w = h
-    by (Send v q) w = omega (arith, ((matrix_lawful r.routes.costs).within (model r).me v (forward_sends (model r) p v q w).neighbour).1)
+    by (Send v q) w = omega (arith, ((routes_lawful r.routes).within (model r).me v (forward_sends (model r) p v q w).neighbour).1)
     by (Drop k) w = h
 moved_inside n r (system.Delivered u c) e h = h
 moved_inside n r (system.Dropped u c k) e h = h

@@ -5,8 +5,8 @@ use mathlib.Core.Path.{fun_ext}
 use Rattle.network.proofs.Placed.{in_place, packets_with, routers_set}
 use Rattle.network.proofs.Sets.{again, read_at, set_at}
 use Rattle.network.specs.Arrival.{arrival_in, is_over}
+use Rattle.network.specs.Errors.{IfRefused}
 use Rattle.network.specs.Events.{Becomes, IsAccepted, Unchanged}
-use Rattle.network.specs.Hearing as hearing
 use Rattle.network.specs.Model.{nodes_in, system, system_of}
 use Rattle.network.specs.Places.{outside, path_at, router_at, PacketsInPlace, RoutersInPlace}
 use Rattle.network.specs.declared.arrival.Arrival.{Arrival}
@@ -146,11 +146,25 @@ pub told_nothing : (u : ℕ) (r s : Router) (old new : Network) → Told u r s o
 told_nothing u r s old new t h =
     becomes u r s old new _ t (t.is ∙ as_it_was (vec_items old.routers) (vec_items old.said) (vec_items new.said) (vec_items old.arrivals) (vec_items old.flights) u r s t.below t.at h)
 
+-- router u replies, and the network goes on; or nothing changes
+pub record Goes (u : ℕ) (reply : protocol.Reply) (old new : Network) {A : Type 0} (o : Result A RouterError) : Type 0 where
+  pub ok : OnOk o (Becomes old new (go_on (system old) u (system old).came reply))
+  pub accepted : OnOk o (IsAccepted reply)
+  pub refused : IfRefused o (λ f. reply ≡ protocol.Refused f)
+  pub unchanged : OnErr o (Unchanged old new)
+
 pub told_heard : (u w : ℕ) (m : Message) (r s : Router) (old new : Network) {A : Type 0} (o : Result A RouterError) → Told u r s old new → replies.Answered (hear (model r) w m) (model r) (model s) (vec_items old.said) (vec_items new.said) o →
-    hearing.Goes u (hear ((system old).routers u) w m) old new o
-told_heard u w m r s old new (Ok x) t h = (told_on u r s old new (λ x. hear x w m) t h, subst (λ x. IsAccepted (hear x w m)) (here u r s old new t) (accepts (hear (model r) w m) (model r) (model s) _ _ h))
-told_heard u w m r s old new (Err (Refused f)) t h = (told_nothing u r s old new t h.1, subst (λ x. hear x w m ≡ protocol.Refused f) (here u r s old new t) h.0)
-told_heard u w m r s old new (Err (Memory e)) t h = told_nothing u r s old new t h
+    Goes u (hear ((system old).routers u) w m) old new o
+told_heard u w m r s old new (Ok x) t h =
+    record {
+      ok = told_on u r s old new (λ x. hear x w m) t h;
+      accepted = subst (λ x. IsAccepted (hear x w m)) (here u r s old new t) (accepts (hear (model r) w m) (model r) (model s) _ _ h);
+      refused = tt;
+      unchanged = tt;
+    }
+told_heard u w m r s old new (Err (Refused f)) t h =
+    record { ok = tt; accepted = tt; refused = subst (λ x. hear x w m ≡ protocol.Refused f) (here u r s old new t) h.0; unchanged = told_nothing u r s old new t h.1 }
+told_heard u w m r s old new (Err (Memory e)) t h = record { ok = tt; accepted = tt; refused = tt; unchanged = told_nothing u r s old new t h }
 
 pub told_switched : (u d : ℕ) (r s : Router) (old new : Network) {A E : Type 0} (o : Result A E) → OnOk o (replies.Accepted (switch (model r) d) (model r) (model s) (vec_items old.said) (vec_items new.said)) →
     OnErr o (replies.Unchanged (model r) (model s) (vec_items old.said) (vec_items new.said)) → Told u r s old new → OnOk o (Becomes old new (step (Switch u d) (system old))) × OnErr o (Unchanged old new)

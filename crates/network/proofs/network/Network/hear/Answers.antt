@@ -13,14 +13,14 @@ invariant_of-self c =
     (record { count = net.count; routers = net.routers_in_place; packets = net.packets_in_place }) in
     record { count = p.count; routers_in_place = p.routers; packets_in_place = p.packets }
 
-pub returns-in-Some-clause-goes : goal.returns-in-Some-clause-goes
-returns-in-Some-clause-goes c =
+pub returns-in-Some : goal.returns-in-Some
+returns-in-Some c =
     let net = c.args.self.now in
     let r = c.in-Some.router.now in
     let s = c.hear.new.self in
     let i = c.in-Some.ensures.item in
     let e = c.index.ensures in
-    told_heard c.args.node c.args.from c.args.message r s net _ c.hear.result
+    let p = told_heard c.args.node c.args.from c.args.message r s net _ c.hear.result
     (record {
       below = omega (arith, i.3.0);
       at = i.1 ∙ ap (λ k. get_or (vec_items net.routers) k r) e;
@@ -28,13 +28,12 @@ returns-in-Some-clause-goes c =
       nodes = length-set (vec_items net.routers) c.index.result s;
       arrivals = refl;
       flights = refl;
-    }) c.hear.ensures
+    }) c.hear.ensures in
+    record { ok = p.ok; accepted = p.accepted; refused = p.refused; unchanged = p.unchanged; arrivals = refl }
 
-pub returns-in-None-clause-goes : goal.returns-in-None-clause-goes
-returns-in-None-clause-goes c =
+pub returns-in-None-clause-refused : goal.returns-in-None-clause-refused
+returns-in-None-clause-refused c =
     let net = c.args.self.now in
     let i = c.in-None.ensures.item in
-    let beyond : length (vec_items net.routers) ≤ c.args.node = omega (arith, i.3) in (
-      record { is = refl; beside = record { nodes = refl; packets = refl; paths = λ p. refl }; over = λ k. refl },
-      heard_outside (vec_items net.routers) c.args.node c.args.from c.args.message beyond,
-    )
+    let beyond : length (vec_items net.routers) ≤ c.args.node = omega (arith, i.3) in
+    heard_outside (vec_items net.routers) c.args.node c.args.from c.args.message beyond
