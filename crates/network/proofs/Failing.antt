@@ -1,8 +1,8 @@
 -- A link fails, and its ends notice.
-use Rattle.std.proofs.Common.{◌≡◌, ◌≢◌, ℕ, Bool, eqb, ◌⊎◌, Ok, Err, OnOk, Result, sym, refl, ap, ◌∙◌, subst, inl, inr}
+use Rattle.std.proofs.Common.{◌≡◌, ◌≢◌, ℕ, Bool, eqb, ◌⊎◌, Ok, Err, OnOk, Result, sym, refl, ap, ◌∙◌, subst, inr}
 use Rattle.network.proofs.Replies.{Goes}
 use Rattle.network.specs.Errors.{IfRefused, OnMemory}
-use Rattle.network.specs.Events.{Becomes, Beside, BothEndsAccept, IsAccepted, OneEndRefuses, Unchanged}
+use Rattle.network.specs.Events.{Becomes, BothEndsAccept, IsAccepted, OneEndRefuses, Unchanged}
 use Rattle.network.specs.Model.{system}
 use Rattle.network.specs.declared.network.Network.{Network}
 use Rattle.protocol.specs.Hearing.{hear, hear_down}
@@ -15,7 +15,6 @@ use Rattle.router.specs.declared.report.Report.{Report}
 use Rattle.router.specs.declared.report.Report.TheVariants.{New, Duplicate}
 use Rattle.std.proofs.lemmas.Bool.{cond-false, ne_eqb}
 use Rattle.theory.specs.Network.{LinkId}
-use Rattle.types.specs.declared.fault.Refusal.{Refusal}
 use Rattle.types.specs.declared.message.Message.TheVariants.{LinkDown}
 
 -- one change after another

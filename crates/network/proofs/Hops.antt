@@ -1,12 +1,12 @@
 -- Packets that are put, and that move.
-use Rattle.std.proofs.Common.{◌≡◌, ◌≢◌, ℕ, ◌+◌, ◌<◌, ◌≤◌, cond, eqb, List, [], ◌∷◌, ◌++◌, map, length, get_or, set, vec_items, Ok, Err, OnOk, OnErr, Result, sym, refl, ap, ◌∙◌, subst, ap₂, arith, length-set}
+use Rattle.std.proofs.Common.{◌≡◌, ◌≢◌, ℕ, ◌<◌, ◌≤◌, cond, eqb, List, [], ◌∷◌, ◌++◌, map, length, get_or, set, vec_items, Ok, Err, OnOk, OnErr, Result, sym, refl, ap, ◌∙◌, subst, ap₂, arith, length-set}
 use mathlib.Core.Path.{fun_ext}
 use Rattle.network.proofs.Placed.{in_place}
 use Rattle.network.proofs.Sets.{again, push_at, read_at, set_at}
-use Rattle.network.specs.Events.{is_message_over, Becomes, Unchanged}
+use Rattle.network.specs.Events.{is_message_over, Unchanged}
 use Rattle.network.specs.Flight.{flight_of, next_nodes, node_in, packet_of_request, path_of, SameFlight}
-use Rattle.network.specs.Model.{nodes_in, packets_in, path_of_packet, system, system_of}
-use Rattle.network.specs.Packets.{goes_to, Apart, Hops, Puts}
+use Rattle.network.specs.Model.{nodes_in, packets_in, system, system_of}
+use Rattle.network.specs.Packets.{goes_to, Hops, Puts}
 use Rattle.network.specs.Places.{flight_at, outside, path_at, router_at, PacketsInPlace, RoutersInPlace}
 use Rattle.network.specs.declared.arrival.Arrival.{Arrival}
 use Rattle.network.specs.declared.flight.Flight.{Flight}
@@ -53,14 +53,14 @@ pub record WithFlights (fs : List Flight) (old new : Network) : Type 0 where
 
 pub puts : (r : SendRequest) (q : ℕ) (f : Flight) (old new : Network) → q ≡ packets_in old → flight_of f ≡ system.UnderWay r.start 0 (packet_of_request r) → path_of f ≡ r.start ∷ [] → WithFlights (vec_items old.flights ++ f ∷ []) old new → Puts r q old new
 puts r q f old new e h g w = rw e (
-  record {
-    next = refl;
-    is = w.is ∙ put_system (vec_items old.routers) (vec_items old.said) (vec_items old.arrivals) (vec_items old.flights) f r.start (packet_of_request r) h;
-    path = ap (λ l. path_at l (packets_in old)) w.flights ∙ put_path (vec_items old.flights) f (r.start ∷ []) g;
-    packets = ap length w.flights ∙ length_push (vec_items old.flights) f;
-    apart = record { nodes = w.nodes; paths = λ p n. ap (λ l. path_at l p) w.flights ∙ put_others (vec_items old.flights) f p n; over = w.over };
-  }
-)
+    record {
+      next = refl;
+      is = w.is ∙ put_system (vec_items old.routers) (vec_items old.said) (vec_items old.arrivals) (vec_items old.flights) f r.start (packet_of_request r) h;
+      path = ap (λ l. path_at l (packets_in old)) w.flights ∙ put_path (vec_items old.flights) f (r.start ∷ []) g;
+      packets = ap length w.flights ∙ length_push (vec_items old.flights) f;
+      apart = record { nodes = w.nodes; paths = λ p n. ap (λ l. path_at l p) w.flights ∙ put_others (vec_items old.flights) f p n; over = w.over };
+    }
+    )
 
 -- it matters only which router is where it is
 there : (f : ℕ → protocol.Router) (s : protocol.Router) (x : system.Flight) → f (node_in x) ≡ s → moved (λ u. s) x ≡ moved f x

@@ -1,11 +1,9 @@
 -- Routers stay at their nodes, and packets at nodes.
-use Rattle.std.proofs.Common.{◌≡◌, ℕ, ◌<◌, List, [], ◌∷◌, ◌++◌, length, get_or, set, sym, refl, ap, ◌∙◌, subst, arith, length-set}
+use Rattle.std.proofs.Common.{◌≡◌, ℕ, ◌<◌, List, [], ◌∷◌, ◌++◌, length, get_or, set, sym, subst, arith, length-set}
 use Rattle.network.proofs.Sets.{push_all, read_at, set_all}
-use Rattle.network.specs.Flight.{flight_in, flight_of, node_in, place_of}
+use Rattle.network.specs.Flight.{flight_of, node_in}
 use Rattle.network.specs.Places.{outside, router_at, PacketsInPlace, RoutersInPlace}
 use Rattle.network.specs.declared.flight.Flight.{Flight}
-use Rattle.network.specs.declared.flight.FlightState.{FlightState}
-use Rattle.network.specs.declared.flight.FlightState.TheVariants as state
 use Rattle.protocol.specs.Router as protocol
 use Rattle.protocol.specs.System as system
 use Rattle.router.specs.Model.{model}

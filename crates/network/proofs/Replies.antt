@@ -1,5 +1,5 @@
 -- A router that was told something goes on as it replies, and all others stay.
-use Rattle.std.proofs.Common.{◌≡◌, ℕ, ◌<◌, ◌≤◌, Bool, true, false, cond, not, ◌&&◌, eqb, List, length, map, get_or, set, Some, None, Ok, Err, OnOk, OnErr, Option, Result, vec_items, sym, refl, ap, ◌∙◌, subst, ap₂, arith, length-set}
+use Rattle.std.proofs.Common.{◌≡◌, ℕ, ◌<◌, ◌≤◌, Bool, true, false, cond, ◌&&◌, eqb, List, length, map, get_or, set, Some, None, Ok, Err, OnOk, OnErr, Option, Result, vec_items, sym, refl, ap, ◌∙◌, subst, ap₂, arith, length-set}
 use Rattle.links.specs.Links.{IsNodeCount}
 use mathlib.Core.Path.{fun_ext}
 use Rattle.network.proofs.Placed.{in_place, packets_with, routers_set}

@@ -1,5 +1,5 @@
 -- A router switches for the destinations to which its path does not use the failed link.
-use Rattle.std.proofs.Common.{◌≡◌, ℕ, zero, suc, ◌+◌, ◌<◌, ◌≤◌, Bool, true, false, cond, not, ◌&&◌, ◌||◌, eqb, ltb, ◌⊎◌, List, [], ◌∷◌, ◌++◌, filter, length, map, Some, None, Option, vec_items, sym, refl, ap, ◌∙◌, subst, inl, inr, append-nil, arith}
+use Rattle.std.proofs.Common.{◌≡◌, ℕ, zero, suc, ◌+◌, ◌<◌, ◌≤◌, Bool, true, false, cond, not, ◌&&◌, ◌||◌, eqb, ltb, ◌⊎◌, [], ◌∷◌, ◌++◌, filter, map, Some, None, Option, vec_items, sym, refl, ap, ◌∙◌, subst, inl, inr, arith}
 use Rattle.network.proofs.Failing.{becomes_same, then}
 use Rattle.network.proofs.Replies.{no_router}
 use Rattle.network.specs.Events.{untouched_below, untouched_switches, Becomes, OnlyTouched, Unchanged}
@@ -10,7 +10,7 @@ use Rattle.protocol.specs.Router as protocol
 use Rattle.protocol.specs.Switching.{after_switch, all_below, mark, may, may_in, none_below, says, switch, switch_in}
 use Rattle.protocol.specs.System.{System, Switch, go_on, run, step}
 use Rattle.router.specs.Uses.{uses_failed, uses_in}
-use Rattle.std.proofs.lemmas.Bool.{and_parts, both_ways, cases_Bool, cases_eq, cases_lt, cond-false, cond-true, cond_both, eq-eqb, eqb-false, ltb-true}
+use Rattle.std.proofs.lemmas.Bool.{and_parts, both_ways, cases_eq, cases_lt, cond-true, cond_both, eq-eqb, eqb-false, ltb-true}
 use Rattle.std.proofs.lemmas.List.{map-append}
 use Rattle.std.proofs.lemmas.List.Elements.{filter-append}
 use Rattle.std.specs.List.{range_with_len}

@@ -1,4 +1,4 @@
-use Rattle.std.proofs.Common.{length, get_or, set, vec_items, refl, ap, ◌∙◌, length-set, arith}
+use Rattle.std.proofs.Common.{get_or, set, vec_items, refl, ap, ◌∙◌, length-set, arith}
 use Rattle.network.proofs.Replies.{kept_switched, placed, told_switched}
 use Rattle.network.proofs.network.Network.switch.Goals as goal
 use Rattle.network.specs.Model.{system_of}

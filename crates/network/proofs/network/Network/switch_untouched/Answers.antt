@@ -1,5 +1,5 @@
 use Rattle.std.proofs.Common.{arith}
-use Rattle.network.proofs.Untouched.{all_switched, none_switched, one_more, switched_some}
+use Rattle.network.proofs.Untouched.{all_switched, none_switched, one_more}
 use Rattle.network.proofs.network.Network.switch_untouched.Goals as goal
 
 pub loop-destination-init : goal.loop-destination-init
