@@ -2,7 +2,8 @@
 use Rattle.std.proofs.Common.{◌≡◌, ℕ, ◌+◌, ◌<◌, false, cond, ltb, List, [], ◌∷◌, ◌++◌, length, None, sym, refl, ap, ◌∙◌, subst, arith}
 use mathlib.Core.Path.{fun_ext}
 use Rattle.links.specs.Links.{IsNodeCount}
-use Rattle.network.proofs.Replies.{no_router, Placed}
+use Rattle.network.proofs.Placed.{Placed}
+use Rattle.network.proofs.Replies.{no_router}
 use Rattle.network.proofs.Sets.{push_all}
 use Rattle.network.specs.Model.{begun, system_of}
 use Rattle.network.specs.Places.{outside, router_at}
@@ -31,7 +32,7 @@ pub idle_more : (z : theory.Network) (k : ℕ) (rs new : List Router) (r : Route
 idle_more z k rs new r h e i = rw i (
     record {
       count = omega (arith, length_push rs r, h.count);
-      each = λ u l. push_all model (λ v x. x ≡ idle z [] v) rs r outside (e ∙ ap (idle z []) (sym h.count)) (λ v m. h.each v (omega (arith, h.count))) u (omega (arith, length_push rs r, h.count));
+      each = λ u l. push_all model rs outside (λ v x. x ≡ idle z [] v) r (e ∙ ap (idle z []) (sym h.count)) (λ v m. h.each v (omega (arith, h.count))) u (omega (arith, length_push rs r, h.count));
     }
     )
 
