@@ -1,4 +1,5 @@
 pub mod Arriving
+pub mod Becoming
 pub mod Built
 pub mod Failing
 pub mod Hops

@@ -1,6 +1,6 @@
 -- A router switches for the destinations to which its path does not use the failed link.
 use Rattle.std.proofs.Common.{◌≡◌, ℕ, zero, suc, ◌+◌, ◌<◌, ◌≤◌, Bool, true, false, cond, not, ◌&&◌, ◌||◌, eqb, ltb, ◌⊎◌, [], ◌∷◌, ◌++◌, filter, map, Some, None, Option, vec_items, sym, refl, ap, ◌∙◌, subst, inl, inr, arith}
-use Rattle.network.proofs.Failing.{becomes_same, then}
+use Rattle.network.proofs.Becoming.{equally, then}
 use Rattle.network.proofs.Replies.{no_router}
 use Rattle.network.specs.Events.{untouched_below, untouched_switches, Becomes, OnlyTouched, Unchanged}
 use Rattle.network.specs.Model.{nodes_in, system}
