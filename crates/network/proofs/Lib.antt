@@ -4,6 +4,7 @@ pub mod Built
 pub mod Failing
 pub mod Hops
 pub mod Moving
+pub mod Packets
 pub mod Placed
 pub mod Plays
 pub mod Replies

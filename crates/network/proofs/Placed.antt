@@ -1,5 +1,5 @@
 -- Routers stay at their nodes, and packets at nodes.
-use Rattle.std.proofs.Common.{◌≡◌, ℕ, ◌<◌, Bool, true, false, cond, ◌&&◌, eqb, List, length, get_or, set, Some, None, Ok, Err, OnOk, OnErr, Option, Result, sym, refl, ap, ◌∙◌, subst, arith, length-set}
+use Rattle.std.proofs.Common.{◌≡◌, ℕ, ◌<◌, Bool, cond, ◌&&◌, eqb, List, length, get_or, set, Some, None, Ok, Err, OnOk, OnErr, Option, Result, sym, refl, ap, ◌∙◌, subst, arith, length-set}
 use Rattle.links.specs.Links.{IsNodeCount}
 use Rattle.network.proofs.Sets.{read_at, set_all}
 use Rattle.network.specs.Flight.{flight_of, node_in}
