@@ -1,11 +1,12 @@
 -- A network as it is built.
-use Rattle.std.proofs.Common.{◌≡◌, ℕ, ◌+◌, ◌<◌, true, false, cond, ltb, List, [], ◌∷◌, ◌++◌, length, None, sym, refl, ap, ◌∙◌, subst, arith}
+use Rattle.std.proofs.Common.{◌≡◌, ℕ, ◌+◌, ◌<◌, false, cond, ltb, List, [], ◌∷◌, ◌++◌, length, None, sym, refl, ap, ◌∙◌, subst, arith}
 use mathlib.Core.Path.{fun_ext}
 use Rattle.links.specs.Links.{IsNodeCount}
-use Rattle.network.proofs.Replies.{no_router, Placed}
+use Rattle.network.proofs.Placed.{Placed}
+use Rattle.network.proofs.Replies.{no_router}
 use Rattle.network.proofs.Sets.{push_all}
 use Rattle.network.specs.Model.{begun, system_of}
-use Rattle.network.specs.Places.{outside, router_at, AllIdle}
+use Rattle.network.specs.Places.{outside, router_at}
 use Rattle.network.specs.declared.arrival.Arrival.{Arrival}
 use Rattle.network.specs.declared.flight.Flight.{Flight}
 use Rattle.protocol.specs.Failed.{Calm}
@@ -18,17 +19,22 @@ use Rattle.std.proofs.lemmas.List.{length_push}
 use Rattle.theory.specs.Network as theory
 use Rattle.types.specs.declared.message.Sent.{Sent}
 
+-- there is a router for each of the first k nodes, which has been given the list z
+pub record AllIdle (z : theory.Network) (k : ℕ) (rs : List Router) : Type 0 where
+  pub count : length rs ≡ k
+  pub each : (u : ℕ) → u < k → router_at rs u ≡ idle z [] u
+
 pub idle_none : (z : theory.Network) (rs : List Router) → rs ≡ [] → AllIdle z 0 rs
 idle_none z rs e = record { count = ap length e; each = λ u l. absurd (omega arith) }
 
 -- one router more
 pub idle_more : (z : theory.Network) (k : ℕ) (rs new : List Router) (r : Router) → AllIdle z k rs → model r ≡ idle z [] k → new ≡ rs ++ r ∷ [] → AllIdle z (k + 1) new
 idle_more z k rs new r h e i = rw i (
-  record {
-    count = omega (arith, length_push rs r, h.count);
-    each = λ u l. push_all model (λ v x. x ≡ idle z [] v) rs r outside (e ∙ ap (idle z []) (sym h.count)) (λ v m. h.each v (omega (arith, h.count))) u (omega (arith, length_push rs r, h.count));
-  }
-)
+    record {
+      count = omega (arith, length_push rs r, h.count);
+      each = λ u l. push_all model rs outside (λ v x. x ≡ idle z [] v) r (e ∙ ap (idle z []) (sym h.count)) (λ v m. h.each v (omega (arith, h.count))) u (omega (arith, length_push rs r, h.count));
+    }
+    )
 
 idle_routers : (z : theory.Network) (rs : List Router) → AllIdle z z.n rs → router_at rs ≡ (λ u. cond (ltb u z.n) (idle z [] u) outside)
 idle_routers z rs h = fun_ext (λ u. cond_both (ltb u z.n) (idle z [] u) outside (λ x. router_at rs u ≡ x) (λ t. h.each u (ltb-true u z.n t)) (λ t. no_router rs u (omega (arith, ltb-false u z.n t, h.count))))

@@ -1,8 +1,9 @@
 -- A link fails, and its ends notice.
-use Rattle.std.proofs.Common.{◌≡◌, ◌≢◌, ℕ, Bool, eqb, ◌⊎◌, Ok, Err, OnOk, Result, sym, refl, ap, ◌∙◌, subst, inl, inr}
+use Rattle.std.proofs.Common.{◌≡◌, ◌≢◌, ℕ, Bool, eqb, ◌⊎◌, Ok, Err, OnOk, Result, sym, refl, ap, ◌∙◌, subst, inr}
+use Rattle.network.proofs.Becoming.{equally, then}
+use Rattle.network.proofs.Replies.{Goes}
 use Rattle.network.specs.Errors.{IfRefused, OnMemory}
-use Rattle.network.specs.Events.{Becomes, Beside, BothEndsAccept, IsAccepted, OneEndRefuses, Unchanged}
-use Rattle.network.specs.Hearing as hearing
+use Rattle.network.specs.Events.{Becomes, BothEndsAccept, IsAccepted, OneEndRefuses, Unchanged}
 use Rattle.network.specs.Model.{system}
 use Rattle.network.specs.declared.network.Network.{Network}
 use Rattle.protocol.specs.Hearing.{hear, hear_down}
@@ -15,20 +16,7 @@ use Rattle.router.specs.declared.report.Report.{Report}
 use Rattle.router.specs.declared.report.Report.TheVariants.{New, Duplicate}
 use Rattle.std.proofs.lemmas.Bool.{cond-false, ne_eqb}
 use Rattle.theory.specs.Network.{LinkId}
-use Rattle.types.specs.declared.fault.Refusal.{Refusal}
 use Rattle.types.specs.declared.message.Message.TheVariants.{LinkDown}
-
--- one change after another
-pub then : (old mid new : Network) (σ τ : System) → Becomes old mid σ → Becomes mid new τ → Becomes old new τ
-then old mid new σ τ a b =
-    record {
-      is = b.is;
-      beside = record { nodes = b.beside.nodes ∙ a.beside.nodes; packets = b.beside.packets ∙ a.beside.packets; paths = λ p. b.beside.paths p ∙ a.beside.paths p };
-      over = λ k. b.over k ∙ a.over k;
-    }
-
-pub becomes_same : (old new : Network) (σ τ : System) → σ ≡ τ → Becomes old new σ → Becomes old new τ
-becomes_same old new σ τ e b = record { is = b.is ∙ e; beside = b.beside; over = b.over }
 
 -- a router that knows what the failure is to it accepts that
 accepts : (l : LinkId) (s : protocol.Router) (r : Report) → Judged l s (Ok r) → IsAccepted (hear_down l s)
@@ -36,7 +24,8 @@ accepts l s New h = subst IsAccepted (sym h) tt
 accepts l s Duplicate h = subst IsAccepted (sym h) tt
 
 -- the other routers stay as they are
-other_router : (σ : System) (u v : ℕ) (came : ℕ → Bool) (reply : protocol.Reply) → v ≢ u → (go_on σ u came reply).routers v ≡ σ.routers v
+other_router : (σ : System) (u v : ℕ) (came : ℕ → Bool) (reply : protocol.Reply) → v ≢ u →
+    (go_on σ u came reply).routers v ≡ σ.routers v
 other_router σ u v came (protocol.Refused k) h = refl
 other_router σ u v came protocol.Stays h = refl
 other_router σ u v came (protocol.Goes s ms) h = cond-false (eqb v u) s (σ.routers v) (ne_eqb v u h)
@@ -49,32 +38,49 @@ pub record Fails (l : LinkId) (old new : Network) {A : Type 0} (o : Result A Rou
   pub unchanged : IfRefused o (λ f. Unchanged old new)
   pub memory : OnMemory o (Unchanged old new ⊎ Becomes old new (notices l l.a (system old)))
 
--- the first end notices, and then maybe the second
-hear_both : (l : LinkId) (old mid new : Network) (p q : Report) {A : Type 0} (o : Result A RouterError) → l.a ≢ l.b → Judged l ((system old).routers l.a) (Ok p) → Judged l ((system old).routers l.b) (Ok q) →
-    Becomes old mid (notices l l.a (system old)) → hearing.Goes l.b (hear_down l ((system mid).routers l.b)) mid new o → Fails l old new o
-hear_both l old mid new p q (Ok x) n i j b h =
-    record {
-      fails = becomes_same old new _ _ (ap (notices l l.b) b.is) (then old mid new _ _ b h.0);
-      accepted = (accepts l ((system old).routers l.a) p i, accepts l ((system old).routers l.b) q j);
-      refused = tt;
-      unchanged = tt;
-      memory = tt;
-    }
-hear_both l old mid new p q (Err (Memory e)) n i j b h =
-    record { fails = tt; accepted = tt; refused = tt; unchanged = tt; memory = inr (becomes_same old new _ _ b.is (then old mid new _ _ b h)) }
-hear_both l old mid new p q (Err (Refused f)) n i j b h =
-    let same : (system mid).routers l.b ≡ (system old).routers l.b = ap (λ (σ : System). σ.routers l.b) b.is ∙ other_router (system old) l.a l.b _ (hear ((system old).routers l.a) l.a (LinkDown l)) (λ e. n (sym e)) in
-    absurd (subst IsAccepted (subst (λ s. hear_down l s ≡ protocol.Refused f) same h.1) (accepts l ((system old).routers l.b) q j))
+module _ (l : LinkId) (old mid new : Network) (p q : Report) where
+  -- the first end has noticed, and then maybe the second
+  second_hears : {A : Type 0} (o : Result A RouterError) → l.a ≢ l.b →
+      Judged l ((system old).routers l.a) (Ok p) → Judged l ((system old).routers l.b) (Ok q) →
+      Becomes old mid (notices l l.a (system old)) →
+      Goes l.b (hear_down l ((system mid).routers l.b)) mid new o → Fails l old new o
+  second_hears (Ok x) n i j b h =
+      record {
+        fails = equally old new _ _ (then old mid new _ _ b h.ok) (ap (notices l l.b) b.is);
+        accepted = (accepts l ((system old).routers l.a) p i, accepts l ((system old).routers l.b) q j);
+        refused = tt;
+        unchanged = tt;
+        memory = tt;
+      }
+  second_hears (Err (Memory e)) n i j b h =
+      record {
+        fails = tt;
+        accepted = tt;
+        refused = tt;
+        unchanged = tt;
+        memory = inr (equally old new _ _ (then old mid new _ _ b h.unchanged) b.is);
+      }
+  second_hears (Err (Refused f)) n i j b h =
+      absurd (subst IsAccepted (ap (hear_down l) (sym same) ∙ h.refused) (accepts l ((system old).routers l.b) q j))
+    where
+      same : (system mid).routers l.b ≡ (system old).routers l.b
+      same =
+          ap (λ (σ : System). σ.routers l.b) b.is ∙
+          other_router (system old) l.a l.b _ (hear ((system old).routers l.a) l.a (LinkDown l)) (λ e. n (sym e))
 
--- of a link with these ends
-pub both_hear : (a b : ℕ) (l : LinkId) (old mid new : Network) (p q : Report) {A : Type 0} (o : Result A RouterError) → record { a = a; b = b } ≡ l → l.a ≢ l.b → Judged l ((system old).routers a) (Ok p) → Judged l ((system old).routers b) (Ok q) →
-    Becomes old mid (go_on (system old) a (system old).came (hear_down l ((system old).routers a))) → hearing.Goes b (hear_down l ((system mid).routers b)) mid new o → Fails l old new o
-both_hear a b l old mid new p q o e n i j c h =
-    hear_both l old mid new p q o n (subst (λ v. Judged l ((system old).routers v) (Ok p)) x i) (subst (λ v. Judged l ((system old).routers v) (Ok q)) y j)
-    (subst (λ v. Becomes old mid (go_on (system old) v (system old).came (hear_down l ((system old).routers v)))) x c) (subst (λ v. hearing.Goes v (hear_down l ((system mid).routers v)) mid new o) y h)
-  where
-    x : a ≡ l.a
-    x = ap (λ (k : LinkId). k.a) e
+  -- of a link with these ends
+  pub both_hear : (a b : ℕ) {A : Type 0} (o : Result A RouterError) → record { a = a; b = b } ≡ l → l.a ≢ l.b →
+      Judged l ((system old).routers a) (Ok p) → Judged l ((system old).routers b) (Ok q) →
+      Becomes old mid (go_on (system old) a (system old).came (hear_down l ((system old).routers a))) →
+      Goes b (hear_down l ((system mid).routers b)) mid new o → Fails l old new o
+  both_hear a b o e n i j c h =
+      second_hears o n (subst (λ v. Judged l ((system old).routers v) (Ok p)) x i)
+      (subst (λ v. Judged l ((system old).routers v) (Ok q)) y j)
+      (subst (λ v. Becomes old mid (go_on (system old) v (system old).came (hear_down l ((system old).routers v)))) x c)
+      (subst (λ v. Goes v (hear_down l ((system mid).routers v)) mid new o) y h)
+    where
+      x : a ≡ l.a
+      x = ap (λ (k : LinkId). k.a) e
 
-    y : b ≡ l.b
-    y = ap (λ (k : LinkId). k.b) e
+      y : b ≡ l.b
+      y = ap (λ (k : LinkId). k.b) e

@@ -1,8 +1,10 @@
 pub mod Arriving
+pub mod Becoming
 pub mod Built
 pub mod Failing
 pub mod Hops
 pub mod Moving
+pub mod Packets
 pub mod Placed
 pub mod Plays
 pub mod Replies

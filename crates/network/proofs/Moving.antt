@@ -1,5 +1,5 @@
 -- A packet that is sent on.
-use Rattle.std.proofs.Common.{◌≡◌, ℕ, suc, ◌+◌, ◌-◌, ◌*◌, ◌<◌, ◌≤◌, List, [], ◌∷◌, ◌++◌, length, get_or, sym, refl, ap, ◌∙◌, arith}
+use Rattle.std.proofs.Common.{◌≡◌, ℕ, suc, ◌+◌, ◌-◌, ◌*◌, ◌<◌, ◌≤◌, List, [], ◌∷◌, ◌++◌, length, get_or, sym, ap, ◌∙◌, arith}
 use Rattle.network.specs.Flight.{flight_in, next_nodes, node_in, sent_to}
 use Rattle.network.specs.FlightState.{hops_left}
 use Rattle.network.specs.declared.flight.FlightState.{FlightState}

@@ -1,5 +1,5 @@
 -- Packets that are played to their end.
-use Rattle.std.proofs.Common.{◌≡◌, ◌≢◌, ℕ, suc, ◌<◌, true, false, eqb, sym, refl, ap, ◌∙◌, subst, arith}
+use Rattle.std.proofs.Common.{◌≡◌, ℕ, suc, ◌<◌, true, false, eqb, sym, refl, ap, ◌∙◌, subst, arith}
 use Rattle.network.specs.Events.{Unchanged}
 use Rattle.network.specs.Model.{system}
 use Rattle.network.specs.Packets.{Apart, ArrivesAfter, ArrivesCalm, Hops, Moves}

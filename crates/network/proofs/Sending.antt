@@ -1,6 +1,6 @@
 -- A packet that is sent arrives.
 use Rattle.std.proofs.Common.{◌≡◌, ℕ, ◌<◌, ◌≤◌, eqb, List, [], ◌∷◌, ◌++◌, length, vec_items, sym, refl, ap, ◌∙◌, subst, arith}
-use Rattle.network.proofs.Hops.{no_flight}
+use Rattle.network.proofs.Packets.{no_flight}
 use Rattle.network.proofs.Plays.{apart_then}
 use Rattle.network.specs.Flight.{packet_of_request}
 use Rattle.network.specs.Model.{system}

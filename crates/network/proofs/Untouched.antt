@@ -1,9 +1,8 @@
 -- A router switches for the destinations to which its path does not use the failed link.
-use Rattle.std.proofs.Common.{◌≡◌, ℕ, zero, suc, ◌+◌, ◌<◌, ◌≤◌, Bool, true, false, cond, not, ◌&&◌, ◌||◌, eqb, ltb, ◌⊎◌, List, [], ◌∷◌, ◌++◌, filter, length, map, Some, None, Option, vec_items, sym, refl, ap, ◌∙◌, subst, inl, inr, append-nil, arith}
-use Rattle.network.proofs.Failing.{becomes_same, then}
+use Rattle.std.proofs.Common.{◌≡◌, ℕ, zero, suc, ◌+◌, ◌<◌, ◌≤◌, Bool, true, false, cond, not, ◌&&◌, ◌||◌, eqb, ltb, ◌⊎◌, [], ◌∷◌, ◌++◌, filter, map, Some, None, Option, vec_items, sym, refl, ap, ◌∙◌, subst, inl, inr, arith}
+use Rattle.network.proofs.Becoming.{equally, then}
 use Rattle.network.proofs.Replies.{no_router}
 use Rattle.network.specs.Events.{untouched_below, untouched_switches, Becomes, OnlyTouched, Unchanged}
-use Rattle.network.specs.Hearing.{switched_if_untouched}
 use Rattle.network.specs.Model.{nodes_in, system}
 use Rattle.network.specs.declared.network.Network.{Network}
 use Rattle.protocol.proofs.Playing.{run_after}
@@ -11,7 +10,7 @@ use Rattle.protocol.specs.Router as protocol
 use Rattle.protocol.specs.Switching.{after_switch, all_below, mark, may, may_in, none_below, says, switch, switch_in}
 use Rattle.protocol.specs.System.{System, Switch, go_on, run, step}
 use Rattle.router.specs.Uses.{uses_failed, uses_in}
-use Rattle.std.proofs.lemmas.Bool.{and_parts, both_ways, cases_Bool, cases_eq, cases_lt, cond-false, cond-true, cond_both, eq-eqb, eqb-false, ltb-true}
+use Rattle.std.proofs.lemmas.Bool.{and_parts, both_ways, cases_eq, cases_lt, cond-true, cond_both, eq-eqb, eqb-false, ltb-true}
 use Rattle.std.proofs.lemmas.List.{map-append}
 use Rattle.std.proofs.lemmas.List.Elements.{filter-append}
 use Rattle.std.specs.List.{range_with_len}
@@ -138,8 +137,8 @@ none_switched u net =
     }
 
 -- for one more, or not
-pub one_more : (u d : ℕ) (first now next : Network) → SwitchedBelow u d first now → Becomes now next (switched_if_untouched u d (system now)) → SwitchedBelow u (d + 1) first next
-one_more u d first now next h b =
+pub one_more : (u d : ℕ) (first now next : Network) → SwitchedBelow u d first now → (uses_failed ((system now).routers u) d ≡ true → Unchanged now next) → (uses_failed ((system now).routers u) d ≡ false → Becomes now next (step (Switch u d) (system now))) → SwitchedBelow u (d + 1) first next
+one_more u d first now next h a c =
     record {
       becomes = becomes_same first next _ _ (alike h.same ∙ sym (switches_more u d σ ∙ ap (λ y. cond (uses_failed (σ.routers u) d) y (step (Switch u d) y)) (sym h.becomes.is))) (then first now next _ _ h.becomes b);
       same = subst (SameUses (σ.routers u)) (sym router) (by (uses_failed s d) (λ x. SameUses (σ.routers u) x) (λ _. h.same) (λ _. same_then (σ.routers u) s (goes_on s (switch s d)) h.same (same_uses s d) (λ n. ap (λ o. (goes_on s (switch_in s d o)).transition) n ∙ n)));
@@ -155,7 +154,10 @@ one_more u d first now next h b =
     s : protocol.Router
     s = τ.routers u
 
-    alike : SameUses (σ.routers u) s → switched_if_untouched u d τ ≡ cond (uses_failed (σ.routers u) d) τ (step (Switch u d) τ)
+    b : Becomes now next (cond (uses_failed s d) τ (step (Switch u d) τ))
+    b = cond_both (uses_failed s d) τ (step (Switch u d) τ) (Becomes now next) a c
+
+    alike : SameUses (σ.routers u) s → cond (uses_failed s d) τ (step (Switch u d) τ) ≡ cond (uses_failed (σ.routers u) d) τ (step (Switch u d) τ)
     alike (inl n) = either (uses_failed s d) ∙ sym (either (uses_failed (σ.routers u) d))
       where
         either : (b : Bool) → cond b τ (step (Switch u d) τ) ≡ τ

@@ -1,5 +1,5 @@
 -- How far messages are.
-use Rattle.std.specs.Prelude.{◌≡◌, ℕ, Bool, true, false, List, slice_index_or}
+use Rattle.std.specs.Prelude.{ℕ, Bool, true, false, List, slice_index_or}
 use Rattle.network.specs.declared.arrival.Arrival.{Arrival}
 use Rattle.network.specs.declared.arrival.Arrival.TheVariants.{NotYet, Again, Over}
 
@@ -18,7 +18,3 @@ is_over Over = true
 -- a message with no entry has not arrived yet
 abbrev pub arrival_in : List Arrival → ℕ → Arrival
 arrival_in l k = slice_index_or l k NotYet
-
--- other entries, which say the same of each message
-abbrev pub SameArrivals : (old new : List Arrival) → Type 0
-SameArrivals old new = (k : ℕ) → arrival_in new k ≡ arrival_in old k

@@ -1,5 +1,5 @@
 -- A fact for each way in which a call ends that can be refused, or want memory.
-use Rattle.std.specs.Prelude.{Bool, true, false, Ok, Err, Result}
+use Rattle.std.specs.Prelude.{Ok, Err, Result}
 use Rattle.router.specs.declared.error.RouterError.{RouterError}
 use Rattle.router.specs.declared.error.RouterError.TheVariants.{Refused, Memory}
 use Rattle.types.specs.declared.fault.Refusal.{Refusal}
@@ -21,8 +21,3 @@ abbrev pub UnlessMemory : {A : Type 0} → Result A RouterError → Type 0 → T
 UnlessMemory (Ok _) P = P
 UnlessMemory (Err (Refused f)) P = P
 UnlessMemory (Err (Memory e)) P = Unit {0}
-
-abbrev pub wants_memory : {A : Type 0} → Result A RouterError → Bool
-wants_memory (Ok _) = false
-wants_memory (Err (Refused f)) = false
-wants_memory (Err (Memory e)) = true

@@ -3,7 +3,6 @@ pub mod Errors
 pub mod Events
 pub mod Flight
 pub mod FlightState
-pub mod Hearing
 pub mod Model
 pub mod Packets
 pub mod Places

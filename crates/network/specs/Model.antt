@@ -1,5 +1,5 @@
 -- A network in the protocol's words.
-use Rattle.std.specs.Prelude.{ℕ, Bool, false, List, [], length, vec_items, if◌then◌else◌, nat_lt}
+use Rattle.std.specs.Prelude.{ℕ, false, List, [], length, vec_items, if◌then◌else◌, nat_lt}
 use Rattle.network.specs.Arrival.{arrival_in, has_come}
 use Rattle.network.specs.Places.{flight_at, outside, path_at, router_at}
 use Rattle.network.specs.declared.arrival.Arrival.{Arrival}

@@ -6,7 +6,6 @@ use Rattle.protocol.specs.Router as protocol
 use Rattle.protocol.specs.System as system
 use Rattle.router.specs.Model.{model}
 use Rattle.router.specs.declared.router.Router.{Router}
-use Rattle.theory.specs.Network.{Network}
 
 -- outside the network there is a router without links
 abbrev pub outside : protocol.Router
@@ -28,8 +27,3 @@ RoutersInPlace rs = (u : ℕ) → u < length rs → ((router_at rs u).me ≡ u) 
 -- each packet is at one of these nodes
 abbrev pub PacketsInPlace : List Router → List Flight → Type 0
 PacketsInPlace rs fs = (q : ℕ) → q < length fs → node_in (flight_at fs q) < length rs
-
--- there is a router for each of the first k nodes, which has been given the list z
-pub record AllIdle (z : Network) (k : ℕ) (rs : List Router) : Type 0 where
-  pub count : length rs ≡ k
-  pub each : (u : ℕ) → u < k → router_at rs u ≡ protocol.idle z [] u

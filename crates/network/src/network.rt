@@ -1,9 +1,10 @@
-ghost use Rattle.std.specs.Prelude.{◌≡◌, ℕ, ◌+◌, ◌^◌, ◌<◌, IfOk, OnOk, length};
+ghost use Rattle.std.specs.Prelude.{◌≡◌, ℕ, ◌+◌, ◌^◌, ◌<◌, false, true, [], IfOk, OnOk, length};
 ghost use Rattle.links.specs.Links.{IsNodeCount};
 ghost use Rattle.links.specs.Topology.{network};
-ghost use Rattle.network.specs.Arrival.{SameArrivals};
-ghost use Rattle.network.specs.Errors.{wants_memory};
-ghost use Rattle.network.specs.Places.{AllIdle, PacketsInPlace, RoutersInPlace};
+ghost use Rattle.network.specs.Arrival.{arrival_in};
+ghost use Rattle.network.specs.Errors.{OnMemory, UnlessMemory};
+ghost use Rattle.network.specs.Places.{router_at, PacketsInPlace, RoutersInPlace};
+ghost use Rattle.protocol.specs.Router.{idle};
 
 use crate::arrival::Arrival;
 use crate::flight::Flight;
@@ -29,16 +30,15 @@ pub struct Network {
 }
 
 impl Network {
-    ghost use Rattle.std.specs.Prelude.{◌⊎◌, ◌≢◌, ◌↔◌, false, true, IfSome, IsSome, OnErr};
-    ghost use Rattle.network.specs.Arrival.{arrival_in, has_come, is_over};
-    ghost use Rattle.network.specs.Errors.{IfRefused, OnMemory, UnlessMemory};
+    ghost use Rattle.std.specs.Prelude.{◌⊎◌, ◌≢◌, ◌↔◌, IfSome, IsSome, OnErr};
+    ghost use Rattle.network.specs.Arrival.{has_come, is_over};
+    ghost use Rattle.network.specs.Errors.{IfRefused};
     ghost use Rattle.network.specs.Events.{is_message_under_way, reply_to, untouched_switches, Arrives, Becomes, BothEndsAccept, IsAccepted, OneEndRefuses, OnlyTouched, Unchanged};
-    ghost use Rattle.network.specs.Hearing.{switched_if_untouched, Goes};
     ghost use Rattle.network.specs.Model.{begun, nodes_in, system};
     ghost use Rattle.protocol.specs.Failed.{Calm};
     ghost use Rattle.protocol.specs.Hearing.{hear};
     ghost use Rattle.protocol.specs.Router.{Refused};
-    ghost use Rattle.protocol.specs.System.{fails, notices, run, step, Switch};
+    ghost use Rattle.protocol.specs.System.{fails, go_on, notices, run, step, Switch};
     ghost use Rattle.router.specs.Model.{model};
     ghost use Rattle.router.specs.Replies.{Judged};
     ghost use Rattle.router.specs.Uses.{uses_failed};
@@ -128,8 +128,12 @@ impl Network {
 
     /// The router at a node hears a message.
     fn hear(&mut self, node: NodeId, from: NodeId, message: Message) -> Result<(), RouterError>
-        ensures goes { Goes node (hear ((system self.old).routers node) from message)
-            self.old self.new result }
+        ensures ok { OnOk result (Becomes self.old self.new (go_on (system self.old) node
+            (system self.old).came (hear ((system self.old).routers node) from message))) }
+        ensures accepted { OnOk result (IsAccepted (hear ((system self.old).routers node) from message)) }
+        ensures refused { IfRefused result (λ f.
+            hear ((system self.old).routers node) from message ≡ Refused f) }
+        ensures unchanged { OnErr result (Unchanged self.old self.new) }
         ensures arrivals { self.new.arrivals.items ≡ self.old.arrivals.items }
     {
         match self.routers.get_mut(node.index()) {
@@ -206,8 +210,11 @@ impl Network {
     }
 
     fn switch_if_untouched(&mut self, node: NodeId, destination: NodeId) -> Result<(), AllocError>
-        ensures ok { OnOk result (Becomes self.old self.new
-            (switched_if_untouched node destination (system self.old))) }
+        ensures touched { uses_failed ((system self.old).routers node) destination ≡ true →
+            Unchanged self.old self.new }
+        ensures untouched { OnOk result (
+            uses_failed ((system self.old).routers node) destination ≡ false →
+            Becomes self.old self.new (step (Switch node destination) (system self.old))) }
         ensures memory { OnErr result (Unchanged self.old self.new) }
     {
         if self.uses_failed(node, destination) {
@@ -226,7 +233,9 @@ impl Network {
 }
 
 fn all_routers(heap: Global, topology: &Topology) -> Result<Vec<Router>, AllocError>
-    ensures { IfOk result (λ routers. AllIdle (network topology.now) (network topology.now).n routers.items) }
+    ensures count { IfOk result (λ routers. length routers.items ≡ (network topology.now).n) }
+    ensures idle { IfOk result (λ routers. (u : ℕ) → u < (network topology.now).n →
+        router_at routers.items u ≡ idle (network topology.now) [] u) }
 {
     let mut routers = Vec::new(heap);
     for node in 0..topology.nodes() {
@@ -237,7 +246,8 @@ fn all_routers(heap: Global, topology: &Topology) -> Result<Vec<Router>, AllocEr
 
 /// Was there not enough memory for it?
 fn wants_memory(answer: Result<(), RouterError>) -> bool
-    ensures { result ≡ wants_memory answer }
+    ensures yes { OnMemory answer (result ≡ true) }
+    ensures no { UnlessMemory answer (result ≡ false) }
 {
     matches!(answer, Err(RouterError::Memory(_)))
 }
@@ -245,7 +255,7 @@ fn wants_memory(answer: Result<(), RouterError>) -> bool
 /// An entry for a message, and for those before it.
 fn make_room(arrivals: &mut Vec<Arrival>, number: usize) -> Result<(), AllocError>
     requires { number + 1 < 2 ^ 64 }
-    ensures same { SameArrivals arrivals.old.items arrivals.new.items }
+    ensures same { (k : ℕ) → arrival_in arrivals.new.items k ≡ arrival_in arrivals.old.items k }
     ensures room { OnOk result (number < length arrivals.new.items) }
 {
     if arrivals.len() <= number {

@@ -1,7 +1,5 @@
-use Rattle.std.proofs.Common.{inr, subst}
 use Rattle.network.proofs.Sending.{sends, sends_after, sends_calm}
 use Rattle.network.proofs.network.Network.send.Goals as goal
-use Rattle.network.specs.Packets.{Sends}
 
 pub returns : goal.returns
 returns c =
