@@ -1,3 +1,0 @@
-pub mod Switches
-pub mod Taking
-pub mod Written
