@@ -37,11 +37,26 @@ pub fn all(networks: usize, random: &mut Random) -> Vec<Input> {
     let mut inputs = extremes();
     inputs.extend(lawful(networks, random));
     inputs.extend(longer_lists(random));
+    inputs.extend(link_too_many(random));
     inputs.extend((0..DAMAGED_SUMMED_UP).map(|_| damaged(random).summed_up()));
     inputs.extend((DAMAGED_SUMMED_UP..DAMAGED).map(|_| damaged(random)));
     inputs.extend(cut_lists(random));
     inputs.extend(changed_lists(random));
     inputs
+}
+
+/// One link more than there can be, which is refused for itself, and bytes after it.
+fn link_too_many(random: &mut Random) -> Vec<Input> {
+    let full = wire::emit(&generate::full(MAX_NODES));
+    let lengths = [0, 1, 3, 4, 5, 8, 65_536];
+    let longer = |length| {
+        let mut bytes = full.clone();
+        let count = u16::from_be_bytes([bytes[2], bytes[3]]) + 1;
+        bytes[2..4].copy_from_slice(&count.to_be_bytes());
+        bytes.extend((0..length).map(|_| random.byte()));
+        Input::new(format!("a link too many, of which {length} bytes are there"), bytes)
+    };
+    lengths.map(longer).into()
 }
 
 fn extremes() -> Vec<Input> {

@@ -39,7 +39,7 @@ pub fn all(count: usize, random: &mut Random) -> Vec<Stream> {
 fn fixed(random: &mut Random) -> Vec<Stream> {
     let mut streams = vec![
         Stream { name: "nothing".into(), node: NodeId(0), bytes: Vec::new() },
-        Stream { name: "a number that is no node".into(), node: NodeId(200), bytes: Vec::new() },
+        Stream { name: "nothing at the highest node".into(), node: NodeId(63), bytes: Vec::new() },
     ];
     for costs in Costs::ALL {
         let mut draft = Draft::new(Shape::Ring, costs, random);
@@ -57,7 +57,7 @@ fn fixed(random: &mut Random) -> Vec<Stream> {
             draft.frames.push((*from, message.clone()));
         }
         streams.push(draft.stream(format!("every message damaged, costs {costs:?}")));
-        for node in [3, 63, 64, 255].map(NodeId) {
+        for node in [3, 62, 63].map(NodeId) {
             let name = format!("the same at another node, {node}");
             streams.push(Stream { name, node, bytes: bytes_of(&draft.frames) });
         }

@@ -1,24 +1,27 @@
 ghost use Rattle.std.specs.Prelude.{◌≡◌, ◌⊎◌, IfOk, IfErr, true, map, string_bytes};
-ghost use Rattle.clap.specs.Words.{IsParsedFrom, HasMatchesOf, app_of, takes, kind_of};
-ghost use Rattle.cli.specs.CommandLine.{Answers, IsBadCommandLine, IsForMemory};
+ghost use Rattle.clap.specs.Words.{HasMatchesOf, IsParsedFrom, app_of, fault_of, is_simple_and_free, kind_of, takes};
+ghost use Rattle.cli.specs.CommandLine.{EndsBy, IsBadCommandLine, IsForMemory, ParsesUnless};
 
 use crate::ending::Ending;
 use crate::name::OneLine;
 use clap::error::ErrorKind;
 use clap::{ArgMatches, Command};
 use std::alloc::{AllocError, Global};
+use std::fmt::Display;
 use std::rt::Env;
 use std::{env, io};
 
 /// The words of the command line, of which the first is the program's name.
-pub fn words<R: Env + AllocGlobal>(rt: &R) -> Result<Vec<String>, Ending> {
+pub fn words<R: Env + AllocGlobal>(rt: &R) -> Result<Vec<String>, Ending>
+    ensures { IfErr result (λ ending. IsBadCommandLine ending ⊎ IsForMemory ending) }
+{
     let alloc = rt.alloc();
     match env::args(rt) {
-        Ok(words) => Ok(words.collect(alloc)?),
+        Ok(words) => words.collect(alloc).map_err(Ending::Memory),
         Err(e) if e.kind() == io::ErrorKind::InvalidData => {
-            let line = String::from_str(alloc, "error: an argument that is not UTF-8")?;
-            Err(Ending::CommandLine(line))
+            Err(bad_command_line(alloc, "an argument that is not UTF-8"))
         }
+        // There is no other cause.
         Err(_) => Err(Ending::Memory(AllocError)),
     }
 }
@@ -30,8 +33,12 @@ pub fn parse<'a>(
     words: &'a [String],
 ) -> Result<ArgMatches<'a>, Ending>
     ensures parsed { IfOk result (λ m. IsParsedFrom command.entry m) }
-    ensures matches { IfOk result (HasMatchesOf (app_of command.entry) (map string_bytes words.entry.now)) }
-    ensures refused { IfErr result (λ e. takes (app_of command.entry) (map string_bytes words.entry.now) ≡ true → IsForMemory e) }
+    ensures matches { IfOk result
+        (HasMatchesOf (app_of command.entry) (map string_bytes words.entry.now)) }
+    ensures taken { IfErr result (λ ending.
+        takes (app_of command.entry) (map string_bytes words.entry.now) ≡ true → IsForMemory ending) }
+    ensures refused { is_simple_and_free (app_of command.entry) ≡ true
+        → ParsesUnless (fault_of (app_of command.entry) (map string_bytes words.entry.now)) result }
 {
     match command.try_get_matches_from(words) {
         Ok(matches) => Ok(matches),
@@ -42,12 +49,22 @@ pub fn parse<'a>(
     }
 }
 
-/// A value that the argument called `name` doesn't take, and why.
+/// The ending where the argument called `name` doesn't take a value, and why.
 pub fn bad_value(alloc: Global, name: &str, value: &str, why: &str) -> Ending
     ensures { IsBadCommandLine result ⊎ IsForMemory result }
 {
     let value = OneLine(value);
-    match format!(in alloc; "error: invalid value '{value}' for '<{name}>': {why}") {
+    bad_command_line(
+        alloc,
+        format_args!("invalid value '{value}' for '<{name}>': {why}"),
+    )
+}
+
+// The ending at a bad command line, worded as clap does.
+fn bad_command_line<D: Display + Drop>(alloc: Global, why: D) -> Ending
+    ensures { IsBadCommandLine result ⊎ IsForMemory result }
+{
+    match format!(in alloc; "error: {why}") {
         Ok(line) => Ending::CommandLine(line),
         Err(error) => Ending::Memory(error),
     }
@@ -55,7 +72,7 @@ pub fn bad_value(alloc: Global, name: &str, value: &str, why: &str) -> Ending
 
 // What clap answers in place of matches: help or the version, or what is wrong.
 fn ending_of(alloc: Global, error: &clap::Error) -> Result<Ending, AllocError>
-    ensures { IfOk result (Answers (kind_of error.now)) }
+    ensures { IfOk result (EndsBy (kind_of error.now)) }
 {
     match error.kind() {
         ErrorKind::OutOfMemory => Err(AllocError),

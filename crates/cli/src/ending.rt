@@ -20,14 +20,18 @@ pub enum Ending {
     /// Something can't be read: a line that names it, and the cause.
     #[error("{0}")]
     Unreadable(String),
+    /// Standard output can't be written.
     #[error("standard output: {0}")]
     Unwritable(io::Error),
     /// A line of a script can't be played: a line that says which, and why.
     #[error("{0}")]
     BadLine(String),
     /// A list of links is refused.
+    /// A list of links is refused.
     #[error("{0}")]
     List(ReadError),
+    /// A router or a packet is at fault.
+    /// There is no memory left.
     #[error("{0}")]
     Memory(#[from(alloc)] AllocError),
 }

@@ -67,7 +67,11 @@ fn unreadable(alloc: Global, file: Option<&str>, cause: &io::Error) -> Ending
 }
 
 // The bytes of a reader, but not more than `count`.
-fn first_bytes<S: Read + Drop>(alloc: Global, reader: S, count: u64) -> io::Result<Vec<u8>>
+pub(crate) fn first_bytes<S: Read + Drop>(
+    alloc: Global,
+    reader: S,
+    count: u64,
+) -> io::Result<Vec<u8>>
     ensures { IfOk result (λ v. IfSome (S.remaining reader) (λ all. v.items ≡ take count all)) }
 {
     let mut bytes = Vec::new(alloc);

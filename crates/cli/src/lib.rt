@@ -7,6 +7,8 @@ mod ending;
 mod input;
 mod name;
 mod program;
+#[cfg(test)]
+mod tests;
 
 pub use command_line::{bad_value, parse, words};
 pub use digits::number;

@@ -8,6 +8,7 @@ pub struct Name<'a>(pub Option<&'a str>);
 impl fmt::Display for Name<'_> {
     fn fmt<W: fmt::Write>(&self, f: &mut fmt::Formatter<W>) -> fmt::Result {
         match self.0 {
+            Some("") => f.write_str("''"),
             Some(file) => write!(f, "{}", OneLine(file)),
             None => f.write_str("standard input"),
         }

@@ -17,11 +17,12 @@ pub struct Program<'a> {
 }
 
 impl<'a> Program<'a> {
-    ghost use Rattle.cli.specs.CommandLine.{IsBare};
+    ghost use Rattle.cli.specs.CommandLine.{IsBare, Shows};
 
     /// Its command line: it takes `--help` and `--version`, and no argument yet.
     pub fn command(&self, alloc: Global) -> Command<'a>
-        ensures { IsBare result }
+        ensures bare { IsBare result }
+        ensures texts { Shows self.now result }
     {
         Command::new(alloc, self.name)
             .version(VERSION)

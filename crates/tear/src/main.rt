@@ -8,7 +8,6 @@ use clap::{Arg, ArgAction, Command};
 use cli::{Ending, Program, finish, parse, read, read_list, words, write_output};
 use network::Network;
 use printing::Number;
-use script::parse_line;
 use stage::Stage;
 use std::alloc::{AllocError, Global};
 use std::process::ExitCode;
@@ -75,8 +74,7 @@ fn request_of<'a>(alloc: Global, words: &'a [String]) -> Result<Request<'a>, End
 // Plays a script to its end, or to the first bad line.
 fn play_script(heap: Global, stage: &mut Stage, script: &[u8]) -> Result<(), Ending> {
     for (k, line) in script.split(|byte| *byte == b'\n').enumerate() {
-        let command = parse_line(heap, line, stage.nodes());
-        if let Err(bad) = command.and_then(|command| stage.play(command)) {
+        if let Err(bad) = stage.play_line(heap, line) {
             let number = Number(k);
             return Err(Ending::BadLine(format!(in heap; "line {number}: {bad}")?));
         }

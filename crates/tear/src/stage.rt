@@ -1,7 +1,7 @@
 // What each command does to a network, and prints.
 use crate::bad_line::{BadLine, RefusedLink, Why};
 use crate::printing::{Number, PacketLine, RefusedWord, Routers, Waits, Words};
-use crate::script::Command;
+use crate::script::{Command, parse_line};
 use network::{Flight, Network, SendRequest};
 use router::{Router, RouterError};
 use std::alloc::{AllocError, Global};
@@ -22,7 +22,7 @@ impl Stage {
         }
     }
 
-    pub fn nodes(&self) -> u8 {
+    fn nodes(&self) -> u8 {
         self.network.nodes()
     }
 
@@ -30,7 +30,15 @@ impl Stage {
         self.out.as_str()
     }
 
-    pub fn play(&mut self, command: Command) -> Result<(), BadLine> {
+    /// Plays a line of a script.
+    pub fn play_line(&mut self, heap: Global, line: &[u8]) -> Result<(), BadLine> {
+        match parse_line(heap, line, self.nodes()) {
+            Ok(command) => self.play(command),
+            Err(bad) => Err(bad),
+        }
+    }
+
+    fn play(&mut self, command: Command) -> Result<(), BadLine> {
         match command {
             Command::Nothing => Ok(()),
             Command::Close(link) => self.close(link),
