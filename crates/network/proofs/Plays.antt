@@ -32,18 +32,34 @@ falls f (UnderWay u c p) e = by (forward (f u) p) refl
 falls f (Delivered u c) e = absurd (both_ways false refl e)
 falls f (Dropped u c k) e = absurd (both_ways false refl e)
 
-pub left_falls : (q : ℕ) (old new : Network) → Hops q old new → true ≡ is_under_way ((system old).flights q) → left ((system new).flights q) < left ((system old).flights q)
+pub left_falls : (q : ℕ) (old new : Network) → Hops q old new → true ≡ is_under_way ((system old).flights q) →
+    left ((system new).flights q) < left ((system old).flights q)
 left_falls q old new h e =
-    let σ = system old in
-    let w : (system new).flights q ≡ moved σ.routers (σ.flights q) = ap (λ (τ : System). τ.flights q) h.is ∙ cond-true (eqb q q) (moved σ.routers (σ.flights q)) (σ.flights q) (eq-eqb q q refl) in
-    subst (λ x. left x < left (σ.flights q)) (sym w) (falls σ.routers (σ.flights q) (sym e))
+    subst (λ x. left x < left (σ.flights q)) (sym flight) (falls σ.routers (σ.flights q) (sym e))
+  where
+    σ : System
+    σ = system old
+
+    flight : (system new).flights q ≡ moved σ.routers (σ.flights q)
+    flight = ap (λ (τ : System). τ.flights q) h.is ∙ cond-true (eqb q q) _ (σ.flights q) (eq-eqb q q refl)
 
 pub none_yet : (q : ℕ) (net : Network) → Moves q net net
 unfolding hops run
-none_yet q net = record { hop_count = 0; is = refl; packets = refl; apart = record { nodes = refl; paths = λ p h. refl; over = λ k. refl } }
+none_yet q net =
+    record {
+      hop_count = 0;
+      is = refl;
+      packets = refl;
+      apart = record { nodes = refl; paths = λ p h. refl; over = λ k. refl };
+    }
 
 pub apart_then : (q : ℕ) (first now next : Network) → Apart q first now → Apart q now next → Apart q first next
-apart_then q first now next a b = record { nodes = b.nodes ∙ a.nodes; paths = λ p w. b.paths p w ∙ a.paths p w; over = λ k. b.over k ∙ a.over k }
+apart_then q first now next a b =
+    record {
+      nodes = b.nodes ∙ a.nodes;
+      paths = λ p w. b.paths p w ∙ a.paths p w;
+      over = λ k. b.over k ∙ a.over k;
+    }
 
 pub once_more : (q : ℕ) (first now next : Network) → Moves q first now → Hops q now next → Moves q first next
 once_more q first now next m h =
@@ -60,19 +76,26 @@ no_more q first now next m u =
       hop_count = m.hop_count;
       is = u.is ∙ m.is;
       packets = u.beside.packets ∙ m.packets;
-      apart = apart_then q first now next m.apart (record { nodes = u.beside.nodes; paths = λ p w. u.beside.paths p; over = u.over });
+      apart =
+          apart_then q first now next m.apart
+          (record { nodes = u.beside.nodes; paths = λ p w. u.beside.paths p; over = u.over });
     }
 
-ended : (q : ℕ) (old new : Network) (m : Moves q old new) → is_under_way ((system new).flights q) ≡ false → is_under_way ((run (hops q m.hop_count) (system old)).flights q) ≡ false
-ended q old new m e = ap (λ (τ : System). is_under_way (τ.flights q)) (sym m.is) ∙ e
+module _ (q : ℕ) (old new : Network) (m : Moves q old new) (e : is_under_way ((system new).flights q) ≡ false) where
+  ended : is_under_way ((run (hops q m.hop_count) (system old)).flights q) ≡ false
+  ended = ap (λ (τ : System). is_under_way (τ.flights q)) (sym m.is) ∙ e
 
-pub arrives_after : (q : ℕ) (old new : Network) → Moves q old new → is_under_way ((system new).flights q) ≡ false → ArrivesAfter q old new
-arrives_after q old new m e z r σ F es i d u c ss D = (
-  m.hop_count,
-  m.is,
-  subst (λ τ. is_under_way ((run (hops q m.hop_count) τ).flights q) ≡ false → Deliverable (without r z) τ q d u c ss → Brought z r τ q d m.hop_count ss) (sym i) (λ w E. played_out z r σ F es q d u c ss E m.hop_count w) (ended q old new m e) D,
-)
+  pub arrives_after : ArrivesAfter q old new
+  arrives_after z r σ F es i d u c ss D = (m.hop_count, m.is, brought ended D)
+    where
+      brought : is_under_way ((run (hops q m.hop_count) (system old)).flights q) ≡ false →
+          Deliverable (without r z) (system old) q d u c ss → Brought z r (system old) q d m.hop_count ss
+      brought =
+          subst (λ τ. is_under_way ((run (hops q m.hop_count) τ).flights q) ≡ false →
+          Deliverable (without r z) τ q d u c ss → Brought z r τ q d m.hop_count ss) (sym i)
+          (λ w E. played_out z r σ F es q d u c ss E m.hop_count w)
 
-pub arrives_calm : (q : ℕ) (old new : Network) → Moves q old new → is_under_way ((system new).flights q) ≡ false → ArrivesCalm q old new
-arrives_calm q old new m e z g C d u c ss D =
-    subst (λ τ. (a : ℕ) × (τ.flights q ≡ Delivered d a)) (sym m.is) (played_calm z (system old) g C q d u c ss D m.hop_count (ended q old new m e)).0
+  pub arrives_calm : ArrivesCalm q old new
+  arrives_calm z g C d u c ss D =
+      subst (λ τ. (a : ℕ) × (τ.flights q ≡ Delivered d a)) (sym m.is)
+      (played_calm z (system old) g C q d u c ss D m.hop_count ended).0
