@@ -140,7 +140,7 @@ none_switched u net =
 pub one_more : (u d : ℕ) (first now next : Network) → SwitchedBelow u d first now → (uses_failed ((system now).routers u) d ≡ true → Unchanged now next) → (uses_failed ((system now).routers u) d ≡ false → Becomes now next (step (Switch u d) (system now))) → SwitchedBelow u (d + 1) first next
 one_more u d first now next h a c =
     record {
-      becomes = becomes_same first next _ _ (alike h.same ∙ sym (switches_more u d σ ∙ ap (λ y. cond (uses_failed (σ.routers u) d) y (step (Switch u d) y)) (sym h.becomes.is))) (then first now next _ _ h.becomes b);
+      becomes = equally first next _ _ (then first now next _ _ h.becomes b) (alike h.same ∙ sym (switches_more u d σ ∙ ap (λ y. cond (uses_failed (σ.routers u) d) y (step (Switch u d) y)) (sym h.becomes.is)));
       same = subst (SameUses (σ.routers u)) (sym router) (by (uses_failed s d) (λ x. SameUses (σ.routers u) x) (λ _. h.same) (λ _. same_then (σ.routers u) s (goes_on s (switch s d)) h.same (same_uses s d) (λ n. ap (λ o. (goes_on s (switch_in s d o)).transition) n ∙ n)));
       only = subst (Only (d + 1)) (sym router) (by (uses_failed s d) (Only (d + 1)) touched (λ _. only_more d s h.only));
     }
@@ -200,4 +200,4 @@ all_switched u k first now h l d m = h.only d (omega (arith, l, h.becomes.beside
 
 -- and where memory is wanting
 pub switched_some : (u k : ℕ) (first now next : Network) → SwitchedBelow u k first now → Unchanged now next → (j : ℕ) × Becomes first next (run (untouched_switches u j (system first)) (system first))
-switched_some u k first now next h b = (k, becomes_same first next _ _ h.becomes.is (then first now next _ _ h.becomes b))
+switched_some u k first now next h b = (k, equally first next _ _ (then first now next _ _ h.becomes b) h.becomes.is)
