@@ -33,7 +33,7 @@ struct Case {
     at: u8,
     down: bool,
     destination: u8,
-    segments: &'static [Segment],
+    segments: [Option<Segment>; 3],
     fate: Fate,
 }
 
@@ -44,7 +44,7 @@ const CASES: [Case; 9] = [
         at: 1,
         down: false,
         destination: 1,
-        segments: &[],
+        segments: [None; 3],
         fate: Fate::Delivered,
     },
     Case {
@@ -53,7 +53,7 @@ const CASES: [Case; 9] = [
         at: 0,
         down: false,
         destination: 2,
-        segments: &[],
+        segments: [None; 3],
         fate: Fate::Sent {
             to: NodeId(1),
             segments: 0,
@@ -65,7 +65,7 @@ const CASES: [Case; 9] = [
         at: 0,
         down: true,
         destination: 2,
-        segments: &[],
+        segments: [None; 3],
         fate: Fate::Sent {
             to: NodeId(3),
             segments: 2,
@@ -77,7 +77,7 @@ const CASES: [Case; 9] = [
         at: 0,
         down: true,
         destination: 3,
-        segments: &[Segment::Node(NodeId(1))],
+        segments: [Some(Segment::Node(NodeId(1))), None, None],
         fate: Fate::Sent {
             to: NodeId(3),
             segments: 3,
@@ -89,10 +89,10 @@ const CASES: [Case; 9] = [
         at: 0,
         down: false,
         destination: 2,
-        segments: &[
-            Segment::Node(NodeId(0)),
-            Segment::Node(NodeId(0)),
-            Segment::Node(NodeId(3)),
+        segments: [
+            Some(Segment::Node(NodeId(0))),
+            Some(Segment::Node(NodeId(0))),
+            Some(Segment::Node(NodeId(3))),
         ],
         fate: Fate::Sent {
             to: NodeId(3),
@@ -105,10 +105,14 @@ const CASES: [Case; 9] = [
         at: 0,
         down: true,
         destination: 1,
-        segments: &[Segment::Link {
-            from: NodeId(0),
-            to: NodeId(3),
-        }],
+        segments: [
+            Some(Segment::Link {
+                from: NodeId(0),
+                to: NodeId(3),
+            }),
+            None,
+            None,
+        ],
         fate: Fate::Sent {
             to: NodeId(3),
             segments: 0,
@@ -120,10 +124,14 @@ const CASES: [Case; 9] = [
         at: 0,
         down: true,
         destination: 1,
-        segments: &[Segment::Link {
-            from: NodeId(0),
-            to: NodeId(1),
-        }],
+        segments: [
+            Some(Segment::Link {
+                from: NodeId(0),
+                to: NodeId(1),
+            }),
+            None,
+            None,
+        ],
         fate: Fate::Dropped(DropReason::SegmentLinkDown),
     },
     Case {
@@ -132,7 +140,7 @@ const CASES: [Case; 9] = [
         at: 0,
         down: true,
         destination: 1,
-        segments: &[],
+        segments: [None; 3],
         fate: Fate::Dropped(DropReason::NoRepair),
     },
     Case {
@@ -141,7 +149,7 @@ const CASES: [Case; 9] = [
         at: 0,
         down: false,
         destination: 64,
-        segments: &[],
+        segments: [None; 3],
         fate: Fate::Dropped(DropReason::NoNextHop),
     },
 ];
@@ -149,9 +157,13 @@ const CASES: [Case; 9] = [
 fn fate_of(heap: Global, case: &Case) -> Result<Fate, Fail> {
     let mut router = router_of(heap, case.bytes, NodeId(case.at))?;
     if case.down {
-        router.hear(NodeId(case.at), Message::LinkDown(FAILED), &mut Vec::new(heap))?;
+        router.hear(
+            NodeId(case.at),
+            Message::LinkDown(FAILED),
+            &mut Vec::new(heap),
+        )?;
     }
-    let packet = Packet::new(NodeId(case.destination), segments_of(case.segments)?);
+    let packet = Packet::new(NodeId(case.destination), segments_of(&case.segments)?);
     Ok(Fate::from(router.forward(packet)))
 }
 

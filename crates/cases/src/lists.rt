@@ -108,7 +108,12 @@ const REFUSED: [Refused; 16] = [
 fn refusals(rt: HostRuntime) -> Result<(), Fail> {
     for case in REFUSED.iter() {
         let read = parse_links(rt.alloc(), case.bytes);
-        assert_eq!(rt; read.err(), case.error().map(LinksError::Refused), "{}", case.name);
+        assert_eq!(rt;
+            read.err(),
+            case.error().map(LinksError::Refused),
+            "{}",
+            case.name
+        );
     }
     Ok(())
 }

@@ -22,10 +22,12 @@ pub(crate) const FAILED: LinkId = LinkId {
 };
 
 // The segments that a sender puts on a packet.
-pub(crate) fn segments_of(list: &[Segment]) -> Result<SenderSegments, ReadFault> {
+pub(crate) fn segments_of(list: &[Option<Segment>]) -> Result<SenderSegments, ReadFault> {
     let mut segments = SenderSegments::new();
     for segment in list {
-        segments.push(*segment)?;
+        if let Some(segment) = segment {
+            segments.push(*segment)?;
+        }
     }
     Ok(segments)
 }

@@ -1,8 +1,9 @@
 // Packets in bytes, in a network of four nodes: what is read, what is refused and where, and what is written.
 use crate::refused::Refused;
+use std::alloc::{AllocError, Global};
 use std::test::Fail;
 use types::{NodeId, ReadFault, Segment};
-use wire::{Origin, emit_packet, parse_packet};
+use wire::{Origin, ReadError, emit_packet, parse_packet};
 
 const NODES: u8 = 4;
 
@@ -146,15 +147,22 @@ const BAD_FROM_SENDER: [Refused; 2] = [
     },
 ];
 
+fn refusal_of(bytes: &[u8], origin: Origin) -> Option<ReadError> {
+    match parse_packet(bytes, NODES, origin) {
+        Ok(_) => None,
+        Err(error) => Some(error),
+    }
+}
+
 #[test]
 fn refused_packets(rt: HostRuntime) -> Result<(), Fail> {
     for case in BAD_FROM_NEIGHBOUR.iter() {
-        let read = parse_packet(case.bytes, NODES, Origin::Neighbour);
-        assert_eq!(rt; read.err(), case.error(), "{}", case.name);
+        let refusal = refusal_of(case.bytes, Origin::Neighbour);
+        assert_eq!(rt; refusal, case.error(), "{}", case.name);
     }
     for case in BAD_FROM_SENDER.iter() {
-        let read = parse_packet(case.bytes, NODES, Origin::Sender);
-        assert_eq!(rt; read.err(), case.error(), "{}", case.name);
+        let refusal = refusal_of(case.bytes, Origin::Sender);
+        assert_eq!(rt; refusal, case.error(), "{}", case.name);
     }
     Ok(())
 }
@@ -166,7 +174,19 @@ struct GoodPacket {
     origin: Origin,
     destination: u8,
     hop_limit: u16,
-    segments: &'static [Segment],
+    segments: [Option<Segment>; 5],
+}
+
+impl GoodPacket {
+    fn all_segments(&self, heap: Global) -> Result<Vec<Segment>, AllocError> {
+        let mut segments = Vec::new(heap);
+        for segment in self.segments.iter() {
+            if let Some(segment) = segment {
+                segments.push(*segment)?;
+            }
+        }
+        Ok(segments)
+    }
 }
 
 const GOOD_PACKETS: [GoodPacket; 4] = [
@@ -176,7 +196,7 @@ const GOOD_PACKETS: [GoodPacket; 4] = [
         origin: Origin::Sender,
         destination: 0,
         hop_limit: 65535,
-        segments: &[],
+        segments: [None; 5],
     },
     GoodPacket {
         name: "no hops left",
@@ -184,10 +204,16 @@ const GOOD_PACKETS: [GoodPacket; 4] = [
         origin: Origin::Neighbour,
         destination: 3,
         hop_limit: 0,
-        segments: &[Segment::Link {
-            from: NodeId(3),
-            to: NodeId(0),
-        }],
+        segments: [
+            Some(Segment::Link {
+                from: NodeId(3),
+                to: NodeId(0),
+            }),
+            None,
+            None,
+            None,
+            None,
+        ],
     },
     GoodPacket {
         name: "three segments of a sender's",
@@ -195,13 +221,15 @@ const GOOD_PACKETS: [GoodPacket; 4] = [
         origin: Origin::Sender,
         destination: 3,
         hop_limit: 256,
-        segments: &[
-            Segment::Node(NodeId(1)),
-            Segment::Link {
+        segments: [
+            Some(Segment::Node(NodeId(1))),
+            Some(Segment::Link {
                 from: NodeId(0),
                 to: NodeId(2),
-            },
-            Segment::Node(NodeId(3)),
+            }),
+            Some(Segment::Node(NodeId(3))),
+            None,
+            None,
         ],
     },
     GoodPacket {
@@ -210,18 +238,18 @@ const GOOD_PACKETS: [GoodPacket; 4] = [
         origin: Origin::Neighbour,
         destination: 3,
         hop_limit: 255,
-        segments: &[
-            Segment::Node(NodeId(1)),
-            Segment::Link {
+        segments: [
+            Some(Segment::Node(NodeId(1))),
+            Some(Segment::Link {
                 from: NodeId(1),
                 to: NodeId(0),
-            },
-            Segment::Node(NodeId(2)),
-            Segment::Link {
+            }),
+            Some(Segment::Node(NodeId(2))),
+            Some(Segment::Link {
                 from: NodeId(2),
                 to: NodeId(3),
-            },
-            Segment::Node(NodeId(3)),
+            }),
+            Some(Segment::Node(NodeId(3))),
         ],
     },
 ];
@@ -235,7 +263,8 @@ fn packets_there_and_back(rt: HostRuntime) -> Result<(), Fail> {
         };
         let fields = (packet.destination().number(), packet.hop_limit());
         assert_eq!(rt; fields, (case.destination, case.hop_limit), "{}", case.name);
-        assert_eq!(rt; packet.segments(), case.segments, "{}", case.name);
+        let segments = case.all_segments(rt.alloc())?;
+        assert_eq!(rt; packet.segments(), segments.as_slice(), "{}", case.name);
         let mut out = [7, 7].to_vec(rt.alloc())?;
         let mut expected = out.clone()?;
         expected.extend_from_slice(case.bytes)?;

@@ -93,16 +93,20 @@ fn entry_of(heap: Global, case: &Case) -> Result<Option<Entry>, Fail> {
     if routes.link_cost(s, f).is_none() {
         return Err(Fail::new("there is no such link"));
     }
-    let mut room = [Entry::Unused; MAX_NODES];
-    let row = &mut room[0..routes.nodes() as usize];
-    precompute_row(&routes, s, f, row);
+    let mut row = [Entry::Unused; MAX_NODES];
+    precompute_row(&routes, s, f, &mut row[..routes.nodes() as usize]);
     Ok(row.get(case.d as usize).copied())
 }
 
 #[test]
 fn repairs(rt: HostRuntime) -> Result<(), Fail> {
     for case in CASES.iter() {
-        assert_eq!(rt; entry_of(rt.alloc(), case)?, Some(case.entry), "{}", case.name);
+        assert_eq!(rt;
+            entry_of(rt.alloc(), case)?,
+            Some(case.entry),
+            "{}",
+            case.name
+        );
     }
     Ok(())
 }

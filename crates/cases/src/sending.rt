@@ -1,7 +1,7 @@
 // Packets sent over whole networks in which the link 0-1 fails.
 use crate::networks::{FAILED, PAIR, RING, TRIANGLE, segments_of, topology_of};
 use network::{FlightState, Network, SendRequest};
-use std::alloc::Global;
+use std::alloc::{AllocError, Global};
 use std::test::Fail;
 use types::{DropReason, NodeId, Segment};
 
@@ -19,8 +19,8 @@ struct Case {
     before: Before,
     from: u8,
     to: u8,
-    segments: &'static [Segment],
-    path: &'static [NodeId],
+    segments: [Option<Segment>; 3],
+    path: &'static [u8],
     cost: u32,
     state: FlightState,
 }
@@ -32,8 +32,8 @@ const CASES: [Case; 11] = [
         before: Before::Nothing,
         from: 3,
         to: 1,
-        segments: &[],
-        path: &[NodeId(3), NodeId(0), NodeId(1)],
+        segments: [None; 3],
+        path: &[3, 0, 1],
         cost: 2,
         state: FlightState::Delivered,
     },
@@ -43,8 +43,8 @@ const CASES: [Case; 11] = [
         before: Before::EndsKnow,
         from: 2,
         to: 2,
-        segments: &[],
-        path: &[NodeId(2)],
+        segments: [None; 3],
+        path: &[2],
         cost: 0,
         state: FlightState::Delivered,
     },
@@ -54,8 +54,8 @@ const CASES: [Case; 11] = [
         before: Before::EndsKnow,
         from: 3,
         to: 1,
-        segments: &[],
-        path: &[NodeId(3), NodeId(0), NodeId(3), NodeId(2), NodeId(1)],
+        segments: [None; 3],
+        path: &[3, 0, 3, 2, 1],
         cost: 4,
         state: FlightState::Delivered,
     },
@@ -65,8 +65,8 @@ const CASES: [Case; 11] = [
         before: Before::Node3Switched,
         from: 3,
         to: 1,
-        segments: &[],
-        path: &[NodeId(3), NodeId(2), NodeId(1)],
+        segments: [None; 3],
+        path: &[3, 2, 1],
         cost: 2,
         state: FlightState::Delivered,
     },
@@ -76,8 +76,8 @@ const CASES: [Case; 11] = [
         before: Before::Node3Switched,
         from: 0,
         to: 1,
-        segments: &[],
-        path: &[NodeId(0), NodeId(3), NodeId(2), NodeId(1)],
+        segments: [None; 3],
+        path: &[0, 3, 2, 1],
         cost: 3,
         state: FlightState::Delivered,
     },
@@ -87,8 +87,8 @@ const CASES: [Case; 11] = [
         before: Before::AllSwitched,
         from: 0,
         to: 1,
-        segments: &[],
-        path: &[NodeId(0), NodeId(3), NodeId(2), NodeId(1)],
+        segments: [None; 3],
+        path: &[0, 3, 2, 1],
         cost: 3,
         state: FlightState::Delivered,
     },
@@ -98,16 +98,8 @@ const CASES: [Case; 11] = [
         before: Before::EndsKnow,
         from: 0,
         to: 0,
-        segments: &[Segment::Node(NodeId(1))],
-        path: &[
-            NodeId(0),
-            NodeId(3),
-            NodeId(2),
-            NodeId(1),
-            NodeId(2),
-            NodeId(3),
-            NodeId(0),
-        ],
+        segments: [Some(Segment::Node(NodeId(1))), None, None],
+        path: &[0, 3, 2, 1, 2, 3, 0],
         cost: 6,
         state: FlightState::Delivered,
     },
@@ -117,18 +109,15 @@ const CASES: [Case; 11] = [
         before: Before::EndsKnow,
         from: 0,
         to: 1,
-        segments: &[Segment::Link {
-            from: NodeId(0),
-            to: NodeId(3),
-        }],
-        path: &[
-            NodeId(0),
-            NodeId(3),
-            NodeId(0),
-            NodeId(3),
-            NodeId(2),
-            NodeId(1),
+        segments: [
+            Some(Segment::Link {
+                from: NodeId(0),
+                to: NodeId(3),
+            }),
+            None,
+            None,
         ],
+        path: &[0, 3, 0, 3, 2, 1],
         cost: 5,
         state: FlightState::Delivered,
     },
@@ -138,11 +127,15 @@ const CASES: [Case; 11] = [
         before: Before::EndsKnow,
         from: 0,
         to: 1,
-        segments: &[Segment::Link {
-            from: NodeId(0),
-            to: NodeId(1),
-        }],
-        path: &[NodeId(0)],
+        segments: [
+            Some(Segment::Link {
+                from: NodeId(0),
+                to: NodeId(1),
+            }),
+            None,
+            None,
+        ],
+        path: &[0],
         cost: 0,
         state: FlightState::Dropped(DropReason::SegmentLinkDown),
     },
@@ -152,8 +145,8 @@ const CASES: [Case; 11] = [
         before: Before::EndsKnow,
         from: 0,
         to: 1,
-        segments: &[],
-        path: &[NodeId(0), NodeId(2), NodeId(1)],
+        segments: [None; 3],
+        path: &[0, 2, 1],
         cost: 2,
         state: FlightState::Delivered,
     },
@@ -163,8 +156,8 @@ const CASES: [Case; 11] = [
         before: Before::EndsKnow,
         from: 0,
         to: 1,
-        segments: &[],
-        path: &[NodeId(0)],
+        segments: [None; 3],
+        path: &[0],
         cost: 0,
         state: FlightState::Dropped(DropReason::NoRepair),
     },
@@ -212,6 +205,15 @@ fn deliver_and_switch(network: &mut Network) -> Result<(), Fail> {
     Ok(())
 }
 
+// The nodes by their numbers.
+fn numbers_of(heap: Global, nodes: &[NodeId]) -> Result<Vec<u8>, AllocError> {
+    let mut numbers = Vec::new(heap);
+    for node in nodes {
+        numbers.push(node.number())?;
+    }
+    Ok(numbers)
+}
+
 #[test]
 fn sent(rt: HostRuntime) -> Result<(), Fail> {
     for case in CASES.iter() {
@@ -223,17 +225,19 @@ fn sent(rt: HostRuntime) -> Result<(), Fail> {
         let number = network.send(SendRequest {
             start,
             destination: NodeId(case.to),
-            segments: segments_of(case.segments)?,
+            segments: segments_of(&case.segments)?,
         })?;
         let Some(flight) = network.flight(number) else {
             return Err(Fail::new("the packet is not there"));
         };
         assert_eq!(rt;
-            (flight.path(), flight.spent(), flight.state()),
-            (case.path, case.cost, case.state),
+            (flight.spent(), flight.state()),
+            (case.cost, case.state),
             "{}",
             case.name
         );
+        let path = numbers_of(rt.alloc(), flight.path())?;
+        assert_eq!(rt; path.as_slice(), case.path, "{}", case.name);
     }
     Ok(())
 }

@@ -110,7 +110,9 @@ fn switched(rt: HostRuntime) -> Result<(), Fail> {
         let answer = match case.step {
             Step::Hear { from, message } => router.hear(NodeId(from), message, &mut said),
             Step::Switch(destination) => {
-                router.switch(NodeId(destination), &mut said).map_err(RouterError::Memory)
+                router
+                    .switch(NodeId(destination), &mut said)
+                    .map_err(RouterError::Memory)
             }
         };
         let may = [0, 1, 2, 3].map(|d| router.may_switch(NodeId(d)));
@@ -121,6 +123,6 @@ fn switched(rt: HostRuntime) -> Result<(), Fail> {
             case.name
         );
     }
-    assert_eq!(rt; router.forwarder().link_cost(NodeId(0), NodeId(1)), None);
+    assert!(rt; router.knows_down(NodeId(0), NodeId(1)));
     Ok(())
 }

@@ -4,7 +4,7 @@ use Rattle.std.proofs.lemmas.Option.{slice_get-get_or}
 use Rattle.theory.specs.Repair.{laid}
 use Rattle.types.proofs.Arrays.{from_fn_each}
 use Rattle.repairs.specs.Entries.{meaning}
-use Rattle.repairs.specs.declared.entry.Entry.TheVariants.{Unused}
+use Rattle.repairs.specs.declared.repair.Entry.TheVariants.{Unused}
 use Rattle.routes.specs.Routes.{routes_network}
 use Rattle.render.specs.LinkRepair.{link_repair_of, of_sender}
 use Rattle.render.specs.declared.link_repair.LinkRepair.{LinkRepair}

@@ -2,7 +2,7 @@ use Rattle.std.proofs.Common.{◌+◌, ◌-◌, ◌∙◌, ap, arith}
 use Rattle.std.proofs.lemmas.List.{get_or-append_right, get_or-drop}
 use Rattle.types.proofs.Arrays.{all_alike}
 use Rattle.repairs.specs.Entries.{meaning}
-use Rattle.repairs.specs.declared.entry.Entry.TheVariants.{Unused}
+use Rattle.repairs.specs.declared.repair.Entry.TheVariants.{Unused}
 use Rattle.render.proofs.link_repair.row_at.Goals as goal
 
 pub returns-clause-behind : goal.returns-clause-behind
