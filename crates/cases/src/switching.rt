@@ -123,6 +123,6 @@ fn switched(rt: HostRuntime) -> Result<(), Fail> {
             case.name
         );
     }
-    assert!(rt; router.knows_down(NodeId(0), NodeId(1)));
+    assert_eq!(rt; router.link_cost(NodeId(0), NodeId(1)), None);
     Ok(())
 }

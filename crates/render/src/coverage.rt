@@ -212,8 +212,7 @@ mod tests {
         //     1   2
         let links = vec![in alloc; link(0, 1, 1), link(0, 2, 1), link(1, 2, 3), link(2, 3, 2)]?;
         let topology = Topology::new(4, links);
-        assert_eq!(
-            rt;
+        assert_eq!(rt;
             summary(alloc, &topology)?.as_str(),
             "places 4
 links 4

@@ -69,19 +69,19 @@ pub fn link_repairs(routes: &Routes, link: LinkId) -> [LinkRepair; MAX_NODES]
     ensures behind { let z = routes_network routes.now in
         (d : ℕ) → z.n ≤ d → d < MAX_NODES →
         option_map link_repair_of (slice_get result d)
-            ≡ Some (record { end = link.b; laid = Unused }) }
+        ≡ Some (record { end = link.b; laid = Unused }) }
 {
     // arrays, and no Vec of a length of its own, which could fail for memory
     let at_a = row_at(routes, link.a, link.b);
     let at_b = row_at(routes, link.b, link.a);
-    array::from_fn(|d|
-        requires { d < MAX_NODES }
-        ensures { link_repair_of result
-            ≡ of_sender link (meaning (slice_index_or at_a d Entry.Unused))
+    array::from_fn(
+        |d|
+            requires { d < MAX_NODES }
+            ensures { link_repair_of result
+                ≡ of_sender link (meaning (slice_index_or at_a d Entry.Unused))
                 (meaning (slice_index_or at_b d Entry.Unused)) }
-    {
-        LinkRepair::of_ends(link, at_a[d], at_b[d])
-    })
+        { LinkRepair::of_ends(link, at_a[d], at_b[d]) },
+    )
 }
 
 /// The repairs of s for its link to f, for each destination.

@@ -64,7 +64,11 @@ impl fmt::Display for RefusedLink {
         let link = self.link;
         match self.why {
             Why::NoLink(fault) => write!(f, "link {link} refused {}: {fault}", fault.number()),
-            Why::Refused(refusal) => write!(f, "link {link} refused {}: {refusal}", refusal.number()),
+            Why::Refused(refusal) => write!(
+                f,
+                "link {link} refused {}: {refusal}",
+                refusal.number()
+            ),
         }
     }
 }

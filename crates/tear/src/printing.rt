@@ -26,7 +26,11 @@ impl fmt::Display for Word {
         match message {
             Message::LinkDown(link) => write!(f, "{from}>{to} closed {link}"),
             Message::Switched(message) => {
-                let Switched { destination, link, .. } = message;
+                let Switched {
+                    destination,
+                    link,
+                    ..
+                } = message;
                 write!(f, "{from}>{to} over {destination} {link}")
             }
         }
@@ -106,7 +110,11 @@ impl fmt::Display for PacketLine<'_> {
             FlightState::UnderWay(_) => write!(f, "packet {number} at {}", flight.at()),
             FlightState::Delivered => write!(f, "packet {number}:{path} arrived cost {cost}"),
             FlightState::Dropped(reason) => {
-                write!(f, "packet {number}:{path} dropped {} cost {cost}", reason.number())
+                write!(
+                    f,
+                    "packet {number}:{path} dropped {} cost {cost}",
+                    reason.number()
+                )
             }
         }
     }

@@ -98,7 +98,9 @@ fn node(word: &str, nodes: u8) -> Result<NodeId, BadLine> {
 
 // A node that may not be one of the network's.
 fn any_node(word: &str, nodes: u8) -> Result<NodeId, BadLine> {
-    number(word).map(|number| NodeId(number)).ok_or(BadLine::Node(nodes))
+    number(word)
+        .map(|number| NodeId(number))
+        .ok_or(BadLine::Node(nodes))
 }
 
 // The index of what has this number.

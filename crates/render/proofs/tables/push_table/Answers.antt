@@ -11,7 +11,7 @@ loop-a-preserved g c =
     let next = c.in-Some.ensures.steps in (
       next.0 ∙ c.loop-a.invariant.0,
       λ v h.
-      let a = c.in-Some.a in
-      next_row c.args.nodes (λ a d. cell (v a d)) c.loop-a.a-iterator.next a _ _ _ _ (c.loop-a.invariant.1 v h)
-      (row_text (decimal a) (λ d. cell (v a d)) c.args.nodes _ _ _ _ c.in_ok-write.ensures.bytes (c.in_ok-push_cells.ensures (v a) (λ d r l p. h a d r (omega (arith, next.1.1, c.loop-a.invariant.0)) l (search rules))) c.in_ok-push_str.ensures.bytes) next.1.0 next.1.2,
+          let a = c.in-Some.a in
+          next_row c.args.nodes (λ a d. cell (v a d)) c.loop-a.a-iterator.next a _ _ _ _ (c.loop-a.invariant.1 v h)
+          (row_text (decimal a) (λ d. cell (v a d)) c.args.nodes _ _ _ _ c.in_ok-write.ensures.bytes (c.in_ok-push_cells.ensures (v a) (λ d r l p. h a d r (omega (arith, next.1.1, c.loop-a.invariant.0)) l (search rules))) c.in_ok-push_str.ensures.bytes) next.1.0 next.1.2,
     )
