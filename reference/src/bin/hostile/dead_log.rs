@@ -32,8 +32,8 @@ impl Log {
     }
 }
 
-/// What the frames of the README give.
-const README_OUTPUT: [u8; 21] = [
+/// What the frames of the worked example give.
+const EXAMPLE_OUTPUT: [u8; 21] = [
     1, 2, 1, 255, 253, 0, // the packet to 1
     3, 3, 0, 1, // LinkDown to 3
     3, 2, 1, 255, 253, 2, 0, 3, 1, 3, 2, // the packet to 3, with its repair
@@ -46,7 +46,7 @@ pub fn test(programs: &Programs, report: &mut Report) -> io::Result<()> {
     for (name, log) in LOGS {
         let serve = log.of(programs.call("box", &["0"]));
         let run = serve.reading(Input::Bytes(&readme.concat())).run()?;
-        report.case(&format!("{name}: frames of the README"), written(&run, &README_OUTPUT));
+        report.case(&format!("{name}: frames of the worked example"), written(&run, &EXAMPLE_OUTPUT));
         let run = serve.reading(Input::Bytes(&many.concat())).run()?;
         report.case(&format!("{name}: later frames"), written(&run, &expected(&many)));
         let run = run_in_pieces(serve, &few)?;
