@@ -38,12 +38,17 @@ impl Log {
         Ok(write!(self.lines, "frame {k}: fault {number}: {error}\n")?)
     }
 
-    // Writes the lines. Where they can't be written they are lost: the router goes on, since its neighbours wait for what it
-    // hands on, and nobody for its log.
-    pub fn write(&mut self, rt: &impl Eprint) {
-        match rt.eprint(self.lines.as_str()) {
+    // Writes the lines, in one write, so that the lines of several routers' logs in one file stay whole. Where they can't be
+    // written they are lost: the router goes on, since its neighbours wait for what it hands on, and nobody for its log.
+    pub fn write(&mut self, errors: &impl Print) {
+        match errors.write_all(self.lines.as_bytes()) {
             Ok(()) | Err(_) => {}
         }
+        self.lines.clear();
+    }
+
+    // The lines are not to be written.
+    pub fn clear(&mut self) {
         self.lines.clear();
     }
 }

@@ -51,11 +51,16 @@ impl Session {
         self.log.note(FrameError::Read(ReadFault::Truncated))
     }
 
-    // Writes what is to be written, once: what has gone out is cleared whatever comes of it.
-    pub fn hand_out<R: Print + Eprint>(&mut self, rt: &R) -> Result<(), Ending> {
+    // Writes what is to be written, once: what has gone out is cleared whatever comes of it. Where that can't be written the
+    // program ends, by one line that says so.
+    pub fn hand_out(&mut self, rt: &HostRuntime) -> Result<(), Ending> {
         let written = write_output(rt, self.out.as_slice());
         self.out.clear();
-        self.log.write(rt);
+        if written.is_ok() {
+            self.log.write(&rt.stderr());
+        } else {
+            self.log.clear();
+        }
         written
     }
 

@@ -27,12 +27,10 @@ pub enum Ending {
     #[error("{0}")]
     BadLine(String),
     /// A list of links is refused.
-    /// A list of links is refused.
     #[error("{0}")]
     List(ReadError),
-    /// A router or a packet is at fault.
     /// There is no memory left.
-    #[error("{0}")]
+    #[error("out of memory")]
     Memory(#[from(alloc)] AllocError),
 }
 

@@ -1,5 +1,5 @@
 -- Why nothing comes of a frame: its number, and what it is for each error below.
-use Rattle.std.specs.Prelude.{ℕ, Some, None, Option}
+use Rattle.std.specs.Prelude.{ℕ, Ok, Err, Some, None, Option, Result}
 use Rattle.router.specs.declared.error.RouterError.{RouterError}
 use Rattle.router.specs.declared.error.RouterError.TheVariants as router
 use Rattle.types.specs.Faults.{read_number, refusal_number, drop_number}
@@ -29,3 +29,11 @@ UnlessMemory (Read fault) P = P
 UnlessMemory (Refused refusal) P = P
 UnlessMemory (Dropped reason) P = P
 UnlessMemory (Memory _) P = Unit {0}
+
+-- P, where memory is wanting
+abbrev pub OnMemory : {A : Type 0} → Result A FrameError → Type 0 → Type 0
+OnMemory (Ok _) P = Unit {0}
+OnMemory (Err (Read fault)) P = Unit {0}
+OnMemory (Err (Refused refusal)) P = Unit {0}
+OnMemory (Err (Dropped reason)) P = Unit {0}
+OnMemory (Err (Memory _)) P = P

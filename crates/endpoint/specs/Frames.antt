@@ -1,5 +1,5 @@
 -- What comes of a frame at a router, in the protocol's words: of bytes that come from a node.
-use Rattle.std.specs.Prelude.{◌≡◌, ℕ, zero, suc, Bool, false, ◌||◌, List, [], ◌∷◌, ◌++◌, Ok, Err, Result, IsOkAnd, if◌then◌else◌, ◌==◌, nat_lt, is_some}
+use Rattle.std.specs.Prelude.{◌≡◌, ℕ, zero, suc, Bool, false, ◌||◌, ◌⊎◌, List, [], ◌∷◌, ◌++◌, Ok, Err, Result, IsOk, IsOkAnd, if◌then◌else◌, ◌==◌, nat_lt, is_some}
 use Rattle.std.specs.List.{flat_map}
 use Rattle.std.specs.Result.{result_map_both}
 use Rattle.links.specs.Links.{network_of}
@@ -91,11 +91,16 @@ unfoldable pub switch_below : ℕ → Served → Served
 switch_below zero x = x
 switch_below (suc k) x = let y = switch_below k x in go_on y (switch y.router k)
 
--- a message is heard; the router then switches for all destinations that it may
+-- the bytes are a message, and it is heard
+abbrev pub hear_message : Router → ℕ → List ℕ → Result Served FrameError
+hear_message s from bytes = do
+  m ← read (message_in s.links.n bytes)
+  by_reply s (hear s from m)
+
+-- the router then switches for all destinations that it may
 abbrev pub serve_message : Router → ℕ → List ℕ → Result Served FrameError
 serve_message s from bytes = do
-  m ← read (message_in s.links.n bytes)
-  x ← by_reply s (hear s from m)
+  x ← hear_message s from bytes
   Ok (switch_below x.router.links.n x)
 
 abbrev pub by_kind : Kind → Router → ℕ → List ℕ → Result Served FrameError
@@ -123,6 +128,23 @@ start me from bytes = if from == me then router_at me bytes else Err (Refused No
 -- it may switch for no destination
 abbrev pub IsSettled : Router → Type 0
 IsSettled s = (d : ℕ) → may s d ≡ false
+
+-- a message is accepted, and the router has switched for the destinations below some k that it may
+abbrev pub SwitchesBelow : Result Served FrameError → Router → Type 0
+SwitchesBelow heard new = (k : ℕ) × IsOkAnd heard (λ x. new ≡ (switch_below k x).router)
+
+-- the bytes are a message, and the router is as it was, or has heard it and switched in part
+abbrev pub HearsInPart : Router → ℕ → List ℕ → Router → Type 0
+HearsInPart s from bytes new =
+    IsOk (message_in s.links.n bytes) × ((new ≡ s) ⊎ SwitchesBelow (hear_message s from bytes) new)
+
+-- the frames of which memory may be wanting, and what the router is then
+abbrev pub WantsMemory : Result Kind ReadError → Router → ℕ → List ℕ → Router → Type 0
+WantsMemory (Ok kind.Links) s from bytes new = new ≡ s
+WantsMemory (Ok kind.Packet) s from bytes new = (new ≡ s) × IsOk (serve_packet s from bytes)
+WantsMemory (Ok kind.LinkDown) s from bytes new = HearsInPart s from bytes new
+WantsMemory (Ok kind.Switched) s from bytes new = HearsInPart s from bytes new
+WantsMemory (Err e) s from bytes new = ⊥
 
 -- the router and the bytes before and after, by what comes of a frame: a refusal changes nothing, and where memory is
 -- wanting nothing is written

@@ -1,6 +1,6 @@
-ghost use Rattle.std.specs.Prelude.{◌≡◌, ◌≢◌, ℕ, Err, IfErr, IfOk, List, Ok, OnOk};
-ghost use Rattle.endpoint.specs.FrameError.{UnlessMemory};
-ghost use Rattle.endpoint.specs.Frames.{by_decision, may_come, origin_of, router_at, serve, serve_list, serve_packet, start, IsSettled, Serves};
+ghost use Rattle.std.specs.Prelude.{◌≡◌, ◌≢◌, ℕ, Err, IfErr, IfOk, IsOk, List, Ok, OnOk, true};
+ghost use Rattle.endpoint.specs.FrameError.{OnMemory, UnlessMemory};
+ghost use Rattle.endpoint.specs.Frames.{by_decision, may_come, origin_of, router_at, serve, serve_list, serve_packet, start, IsSettled, Serves, WantsMemory};
 ghost use Rattle.protocol.specs.Packet.{forward};
 ghost use Rattle.router.specs.Model.{model};
 ghost use Rattle.types.specs.Packet.{packet_of};
@@ -14,7 +14,7 @@ use types::{NodeId, Packet, ReadFault, Refusal};
 use wire::{Frame, Kind, Origin, emit_packet_to, kind_of, parse_links, parse_packet};
 
 /// A frame comes to a router. What the router hands on and says is put behind what is written already. Where memory is
-/// wanting nothing is written, but the router may have heard a message, and switched for some destinations.
+/// wanting nothing is written, but the router may have heard a message, and switched for the first destinations.
 pub fn serve(
     heap: Global,
     router: &mut Router,
@@ -23,6 +23,11 @@ pub fn serve(
 ) -> Result<(), FrameError>
     ensures value { Serves (serve (model router.old) frame.entry.from frame.entry.message.now)
         (model router.old) (model router.new) out.old.items out.new.items result }
+
+    // A stranger's frame, bytes that aren't read and a dropped packet never want memory.
+    ensures memory { OnMemory result ((may_come (model router.old) frame.entry.from ≡ true) ×
+        WantsMemory (kind_in frame.entry.message.now)
+        (model router.old) frame.entry.from frame.entry.message.now (model router.new)) }
 
     // After a list or a message it may switch for no destination.
     ensures settled { kind_in frame.entry.message.now ≢ Ok Kind.Packet →
@@ -76,6 +81,7 @@ fn router_at(heap: Global, me: NodeId, bytes: &[u8]) -> Result<Router, FrameErro
 fn serve_list(heap: Global, router: &mut Router, bytes: &[u8]) -> Result<(), FrameError>
     ensures value { (out : List ℕ) → Serves (serve_list (model router.old) bytes.now)
         (model router.old) (model router.new) out out result }
+    ensures memory { OnMemory result (model router.new ≡ model router.old) }
     ensures settled { OnOk result (IsSettled (model router.new)) }
 {
     let next = router_at(heap, router.node(), bytes)?;
@@ -92,8 +98,9 @@ fn serve_packet(
     bytes: &[u8],
     out: &mut Vec<u8>,
 ) -> Result<(), FrameError>
-    ensures { Serves (serve_packet (model router.now) from bytes.now)
+    ensures value { Serves (serve_packet (model router.now) from bytes.now)
         (model router.now) (model router.now) out.old.items out.new.items result }
+    ensures memory { OnMemory result (IsOk (serve_packet (model router.now) from bytes.now)) }
 {
     match parse_packet(bytes, router.nodes(), origin_of(router, from)) {
         Ok(packet) => hand_on(router, packet, out),
@@ -103,9 +110,11 @@ fn serve_packet(
 
 /// A packet has come to its destination, or goes on to a neighbour, or is dropped.
 fn hand_on(router: &Router, packet: Packet, out: &mut Vec<u8>) -> Result<(), FrameError>
-    ensures { let p = packet_of packet in
+    ensures value { let p = packet_of packet in
         let served = by_decision (model router.now) p (forward (model router.now) p) in
         Serves served (model router.now) (model router.now) out.old.items out.new.items result }
+    ensures memory { let p = packet_of packet in
+        OnMemory result (IsOk (by_decision (model router.now) p (forward (model router.now) p))) }
 {
     let bare = Packet::without_segments(packet.destination(), packet.hop_limit());
     match router.forward(packet) {

@@ -1,6 +1,7 @@
 ghost use Rattle.std.specs.Prelude.{◌≡◌, ℕ, ◌++◌, List, OnErr, OnOk};
 ghost use Rattle.std.specs.List.{flat_map};
-ghost use Rattle.endpoint.specs.Frames.{saying, sent_bytes, serve_message, switch_below, IsSettled, Serves};
+ghost use Rattle.endpoint.specs.FrameError.{OnMemory};
+ghost use Rattle.endpoint.specs.Frames.{saying, sent_bytes, serve_message, switch_below, HearsInPart, IsSettled, Serves};
 ghost use Rattle.router.specs.Model.{model};
 
 use crate::error::FrameError;
@@ -19,6 +20,8 @@ pub(crate) fn serve_message(
 ) -> Result<(), FrameError>
     ensures value { Serves (serve_message (model router.old) from bytes.now)
         (model router.old) (model router.new) out.old.items out.new.items result }
+    ensures memory { OnMemory result
+        (HearsInPart (model router.old) from bytes.now (model router.new)) }
     ensures settled { OnOk result (IsSettled (model router.new)) }
 {
     let message = parse_message(bytes, router.nodes())?;
@@ -28,11 +31,14 @@ pub(crate) fn serve_message(
     Ok(write_said(&said, out)?)
 }
 
-/// It switches for each destination that it may, in rising order.
+/// It switches for each destination that it may, in rising order; where memory is wanting, for the first ones.
 fn settle(router: &mut Router, said: &mut Vec<Sent>) -> Result<(), AllocError>
     ensures switches { let before = saying (model router.old) said.old.items in
         let after = saying (model router.new) said.new.items in
         OnOk result (after ≡ switch_below before.router.links.n before) }
+    ensures memory { let before = saying (model router.old) said.old.items in
+        let after = saying (model router.new) said.new.items in
+        OnErr result ((k : ℕ) × (after ≡ switch_below k before)) }
     ensures settled { OnOk result (IsSettled (model router.new)) }
 {
     for destination in NodeId::all(router.nodes()) {
