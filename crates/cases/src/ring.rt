@@ -1,7 +1,7 @@
 // The ring of four with all costs 1: distances, next hops, paths, and what lay prints.
 use crate::networks::{RING, topology_of};
 use render::plan;
-use routes::Routes;
+use routes::{CostMatrix, Routes};
 use std::test::Fail;
 use types::{LinkId, NodeId};
 
@@ -88,6 +88,26 @@ fn the_longer_path(rt: HostRuntime) -> Result<(), Fail> {
     let topology = topology_of(rt.alloc(), RING)?;
     let path = Routes::of(&topology).path(rt.alloc(), NodeId(1), NodeId(3))?;
     assert_eq!(rt; path.as_slice(), [NodeId(0), NodeId(1)].as_slice());
+    Ok(())
+}
+
+// What the links cost, and what is found in a slice of distances: no next hop where it is too long or too short, or the node
+// is none of the four.
+#[test]
+fn by_what_links_cost(rt: HostRuntime) -> Result<(), Fail> {
+    let topology = topology_of(rt.alloc(), RING)?;
+    let costs = CostMatrix::of(&topology);
+    assert_eq!(rt; costs.nodes(), 4);
+    assert_eq!(rt; costs.cost(NodeId(0), NodeId(3)), Some(1));
+    assert_eq!(rt; costs.cost(NodeId(0), NodeId(2)), None);
+    let mut dist = [7; 4];
+    costs.distances(NodeId(1), &mut dist);
+    assert_eq!(rt; dist, [1, 0, 1, 2]);
+    assert_eq!(rt; costs.next_hop(NodeId(3), &dist), Some(NodeId(0)));
+    assert_eq!(rt; costs.next_hop(NodeId(1), &dist), None);
+    assert_eq!(rt; costs.next_hop(NodeId(4), &dist), None);
+    assert_eq!(rt; costs.next_hop(NodeId(3), &dist[0..3]), None);
+    assert_eq!(rt; costs.next_hop(NodeId(3), &[1, 0, 1, 2, 3]), None);
     Ok(())
 }
 

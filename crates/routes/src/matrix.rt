@@ -24,7 +24,7 @@ pub struct CostMatrix {
 }
 
 impl CostMatrix {
-    ghost use Rattle.std.specs.Prelude.{◌≡◌, ℕ, ◌+◌, ◌*◌, ◌<◌, ◌≤◌, ◌⊎◌, ◌↔◌, IsTrue, MatchOption, length, nat_lt};
+    ghost use Rattle.std.specs.Prelude.{◌≡◌, ℕ, ◌+◌, ◌*◌, ◌<◌, ◌≤◌, ◌⊎◌, ◌↔◌, IsTrue, MatchOption, length, None, nat_lt, ◌≢◌};
     ghost use Rattle.theory.specs.Network.{Lawful, Limited};
     ghost use Rattle.theory.specs.NextHop.{next_hop};
     ghost use Rattle.types.specs.Change.{changed};
@@ -92,13 +92,15 @@ impl CostMatrix {
         View::new(self, &Change::Nothing).distances(d, dist);
     }
 
-    /// The next hop of a for d, where `dist` has the distances to d.
+    /// The next hop of a for d, where `dist` has the distances to d; none where it has another length than n.
     pub fn next_hop(&self, a: NodeId, dist: &[u32]) -> Option<NodeId>
-        requires node { a < (matrix_network self.now).n }
-        requires size { length dist.now ≡ (matrix_network self.now).n }
-        ensures { (d : ℕ) → Filled (matrix_network self.now) d dist.now →
+        ensures filled { (d : ℕ) → Filled (matrix_network self.now) d dist.now →
             result ≡ next_hop (matrix_network self.now) d a }
+        ensures unfit { (length dist.now ≢ (matrix_network self.now).n) → result ≡ None }
     {
+        if dist.len() != self.nodes as usize || !self.has(a) {
+            return None;
+        }
         View::new(self, &Change::Nothing).next_hop(a, dist)
     }
 

@@ -63,6 +63,13 @@ impl Routes {
         }
     }
 
+    /// What the links of the network cost.
+    pub fn costs(&self) -> &CostMatrix
+        ensures { matrix_network result.now ≡ routes_network self.now }
+    {
+        &self.costs
+    }
+
     /// How many nodes the network has: 1 to 64.
     pub fn nodes(&self) -> u8
         ensures value { result ≡ (routes_network self.now).n }
