@@ -171,7 +171,10 @@ fn network_of(heap: Global, case: &Case) -> Result<Network, Fail> {
         Before::EndsKnow => network.fail(FAILED)?,
         Before::Node3Switched => {
             network.fail(FAILED)?;
-            deliver(&mut network, 0)?;
+            let Some(answer) = network.deliver(0) else {
+                return Err(Fail::new("the message is not under way"));
+            };
+            answer?;
             network.switch(NodeId(3), NodeId(1))?;
         }
         Before::AllSwitched => {
@@ -184,18 +187,12 @@ fn network_of(heap: Global, case: &Case) -> Result<Network, Fail> {
     Ok(network)
 }
 
-// A message arrives, if it is under way.
-fn deliver(network: &mut Network, k: usize) -> Result<(), Fail> {
-    if network.is_message_under_way(k) {
-        network.deliver(k)?;
-    }
-    Ok(())
-}
-
 // All messages arrive that were sent so far, and all routers switch that may then.
 fn deliver_and_switch(network: &mut Network) -> Result<(), Fail> {
     for k in 0..network.messages().len() {
-        deliver(network, k)?;
+        if let Some(answer) = network.deliver(k) {
+            answer?;
+        }
     }
     for u in 0..4 {
         for d in 0..4 {

@@ -1,7 +1,7 @@
 //! A whole network: its routers, the messages between them, and the packets that are played over it.
 #![tactic(auto)]
 
-mod arrival;
+pub mod arrival;
 pub mod flight;
 pub mod network;
 pub mod send_request;

@@ -30,7 +30,7 @@ pub struct Network {
 }
 
 impl Network {
-    ghost use Rattle.std.specs.Prelude.{◌⊎◌, ◌≢◌, ◌↔◌, IfSome, IsSome, OnErr};
+    ghost use Rattle.std.specs.Prelude.{◌⊎◌, ◌≢◌, ◌↔◌, IfNone, IfSome, IsNone, IsSome, OnErr};
     ghost use Rattle.network.specs.Arrival.{has_come, is_over};
     ghost use Rattle.network.specs.Errors.{IfRefused};
     ghost use Rattle.network.specs.Events.{is_message_under_way, reply_to, untouched_switches, Arrives, Becomes, BothEndsAccept, IsAccepted, OneEndRefuses, OnlyTouched, Unchanged};
@@ -142,26 +142,42 @@ impl Network {
         }
     }
 
-    /// A message arrives, and stays under way. It has arrived where the router refuses it, too.
-    pub fn arrive(&mut self, number: usize) -> Result<(), RouterError>
-        requires { is_message_under_way self.old number ≡ true }
-        ensures arrives { UnlessMemory result (Arrives number false self.old self.new) }
-        ensures accepted { OnOk result (IsAccepted (reply_to number (system self.old))) }
-        ensures refused { IfRefused result (λ f. reply_to number (system self.old) ≡ Refused f) }
-        ensures memory { OnMemory result (Unchanged self.old self.new) }
+    /// A message arrives, and stays under way. It has arrived where the router refuses it, too. None where it is not under
+    /// way: then nothing changes.
+    pub fn arrive(&mut self, number: usize) -> Option<Result<(), RouterError>>
+        ensures none { IsNone result ↔ (is_message_under_way self.old number ≡ false) }
+        ensures unchanged { IfNone result (Unchanged self.old self.new) }
+        ensures arrives { IfSome result (λ r.
+            UnlessMemory r (Arrives number false self.old self.new)) }
+        ensures accepted { IfSome result (λ r.
+            OnOk r (IsAccepted (reply_to number (system self.old)))) }
+        ensures refused { IfSome result (λ r.
+            IfRefused r (λ f. reply_to number (system self.old) ≡ Refused f)) }
+        ensures memory { IfSome result (λ r. OnMemory r (Unchanged self.old self.new)) }
     {
-        self.bring(number, Arrival::Again)
+        if !self.is_message_under_way(number) {
+            return None;
+        }
+        Some(self.bring(number, Arrival::Again))
     }
 
-    /// A message arrives, and is no longer under way. It has arrived where the router refuses it, too.
-    pub fn deliver(&mut self, number: usize) -> Result<(), RouterError>
-        requires { is_message_under_way self.old number ≡ true }
-        ensures arrives { UnlessMemory result (Arrives number true self.old self.new) }
-        ensures accepted { OnOk result (IsAccepted (reply_to number (system self.old))) }
-        ensures refused { IfRefused result (λ f. reply_to number (system self.old) ≡ Refused f) }
-        ensures memory { OnMemory result (Unchanged self.old self.new) }
+    /// A message arrives, and is no longer under way. It has arrived where the router refuses it, too. None where it is not
+    /// under way: then nothing changes.
+    pub fn deliver(&mut self, number: usize) -> Option<Result<(), RouterError>>
+        ensures none { IsNone result ↔ (is_message_under_way self.old number ≡ false) }
+        ensures unchanged { IfNone result (Unchanged self.old self.new) }
+        ensures arrives { IfSome result (λ r.
+            UnlessMemory r (Arrives number true self.old self.new)) }
+        ensures accepted { IfSome result (λ r.
+            OnOk r (IsAccepted (reply_to number (system self.old)))) }
+        ensures refused { IfSome result (λ r.
+            IfRefused r (λ f. reply_to number (system self.old) ≡ Refused f)) }
+        ensures memory { IfSome result (λ r. OnMemory r (Unchanged self.old self.new)) }
     {
-        self.bring(number, Arrival::Over)
+        if !self.is_message_under_way(number) {
+            return None;
+        }
+        Some(self.bring(number, Arrival::Over))
     }
 
     fn bring(&mut self, number: usize, then: Arrival) -> Result<(), RouterError>

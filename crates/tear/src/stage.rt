@@ -72,20 +72,18 @@ impl Stage {
 
     // A message that there isn't, or that has arrived, is a mistake of the script's.
     fn deliver(&mut self, k: usize) -> Result<(), BadLine> {
-        if !self.network.is_message_under_way(k) {
-            return Err(BadLine::Message(Number(k)));
+        match self.network.deliver(k) {
+            Some(answer) => self.arrived(k, answer),
+            None => Err(BadLine::Message(Number(k))),
         }
-        let answer = self.network.deliver(k);
-        self.arrived(k, answer)
     }
 
     // It arrives, and stays under way.
     fn arrive_again(&mut self, k: usize) -> Result<(), BadLine> {
-        if !self.network.is_message_under_way(k) {
-            return Err(BadLine::Message(Number(k)));
+        match self.network.arrive(k) {
+            Some(answer) => self.arrived(k, answer),
+            None => Err(BadLine::Message(Number(k))),
         }
-        let answer = self.network.arrive(k);
-        self.arrived(k, answer)
     }
 
     // What comes of a message that has arrived. One that nobody waits for is passed over in silence.
@@ -120,8 +118,8 @@ impl Stage {
             if k >= self.network.messages().len() {
                 break;
             }
-            if self.network.is_message_under_way(k) {
-                self.deliver(k)?;
+            if let Some(answer) = self.network.deliver(k) {
+                self.arrived(k, answer)?;
             }
         }
         Ok(())
