@@ -36,10 +36,11 @@ impl Router {
     ghost use Rattle.links.specs.Topology.{network};
     ghost use Rattle.protocol.specs.Packet.{known_down};
     ghost use Rattle.protocol.specs.Router.{entry, has_link, idle, known_failure, pending_in, switched_in};
-    ghost use Rattle.protocol.specs.Switching.{may};
+    ghost use Rattle.protocol.specs.Switching.{all_below, mark, may};
     ghost use Rattle.router.specs.Model.{model};
     ghost use Rattle.router.specs.Uses.{uses_failed};
     ghost use Rattle.routes.specs.Costs.{link_cost};
+    ghost use Rattle.theory.specs.NextHop.{next_hop, uses};
 
     /// The router at a node of a topology, which knows of no failure.
     pub fn new(heap: Global, topology: &Topology, me: NodeId) -> Router
@@ -87,6 +88,20 @@ impl Router {
         self.link_cost(link.a, link.b).is_some()
     }
 
+    /// The next hop of any node for d by its list, also where it uses another itself already.
+    pub fn hop_of(&self, d: NodeId, a: NodeId) -> Option<NodeId>
+        ensures { result ≡ next_hop (model self.now).links d a }
+    {
+        self.routes.next_hop(d, a)
+    }
+
+    /// Does the path of any node to d by its list use the link?
+    pub fn uses(&self, link: LinkId, d: NodeId, a: NodeId) -> bool
+        ensures { result ≡ uses (model self.now).links link d a }
+    {
+        self.routes.uses(link, d, a)
+    }
+
     /// The link that it knows to be down.
     pub fn failure(&self) -> Option<LinkId>
         ensures { result ≡ known_failure (model self.now) }
@@ -124,6 +139,14 @@ impl Router {
         }
     }
 
+    /// Has it switched for all destinations, once it switches for this one? It asks the same where no failure is known.
+    pub fn is_last(&self, destination: NodeId) -> bool
+        ensures { let s = model self.now in
+            result ≡ all_below s.links.n (mark destination (switched_in s.transition)) }
+    {
+        (0..self.nodes()).all(|d| NodeId(d) == destination || self.has_switched(NodeId(d)))
+    }
+
     /// Does it wait for a neighbour to switch for a destination?
     pub fn waits_for(&self, destination: NodeId, neighbour: NodeId) -> bool
         ensures { result ≡ pending_in (model self.now).transition destination neighbour }
@@ -153,6 +176,6 @@ impl Router {
         ensures { result ≡ uses_failed (model self.now) destination }
     {
         self.failure()
-            .is_some_and(|link| self.routes.uses(link, destination, self.me))
+            .is_some_and(|link| self.uses(link, destination, self.me))
     }
 }

@@ -14,8 +14,7 @@ pub(crate) struct Transition {
 }
 
 impl Transition {
-    ghost use Rattle.std.specs.Prelude.{◌≡◌, ◌≤◌, ◌<◌};
-    ghost use Rattle.protocol.specs.Switching.{all_below, mark};
+    ghost use Rattle.std.specs.Prelude.{◌≡◌, ◌<◌};
     ghost use Rattle.router.specs.Transition.{transition_of};
 
     /// Has it switched for a destination?
@@ -30,12 +29,5 @@ impl Transition {
         ensures { result ≡ (transition_of self.now).pending destination neighbour }
     {
         destination.index() < MAX_NODES && self.pending[destination.index()].contains(neighbour)
-    }
-
-    /// Has it switched for all of so many destinations, once it switches for this one?
-    pub fn is_last(&self, destination: NodeId, nodes: u8) -> bool
-        ensures { result ≡ all_below nodes (mark destination (transition_of self.now).switched) }
-    {
-        (0..nodes).all(|d| NodeId(d) == destination || self.switched.contains(NodeId(d)))
     }
 }

@@ -122,9 +122,9 @@ impl Router {
     fn would_wait(&self, link: LinkId, destination: NodeId, from: NodeId) -> bool
         ensures { result ≡ waits_for (model self.now).links link destination (model self.now).me from }
     {
-        self.routes.next_hop(destination, from) == Some(self.me)
-            && self.routes.uses(link, destination, self.me)
-            && self.routes.uses(link, destination, from)
+        self.hop_of(destination, from) == Some(self.me)
+            && self.uses(link, destination, self.me)
+            && self.uses(link, destination, from)
     }
 
     /// Has the neighbour's Switched message come before the failure was known?

@@ -53,11 +53,10 @@ impl Router {
     fn tells(&self, link: LinkId, destination: NodeId) -> Option<NodeId>
         ensures { told (model self.now).me destination link result ≡ says destination link (model self.now) }
     {
-        if !self.routes.uses(link, destination, self.me) {
+        if !self.uses(link, destination, self.me) {
             return None;
         }
-        self.routes
-            .next_hop(destination, self.me)
+        self.hop_of(destination, self.me)
             .filter(|hop| !link.joins(self.me, *hop))
     }
 
@@ -68,9 +67,9 @@ impl Router {
         ensures ok { OnOk result (Switches destination (model self.old) (model self.new)) }
         ensures memory { OnErr result (model self.new ≡ model self.old) }
     {
-        let nodes = self.nodes();
+        let last = self.is_last(destination);
         match &mut self.transition {
-            Some(transition) if !transition.is_last(destination, nodes) => {
+            Some(transition) if !last => {
                 transition.switched.insert(destination);
                 Ok(())
             }
