@@ -1,9 +1,9 @@
 -- Sets of nodes, bit by bit.
-use Rattle.std.proofs.Common.{◌≡◌, ℕ, zero, suc, ◌-◌, ◌*◌, ◌%◌, ◌^◌, ◌<◌, ◌≤◌, Bool, true, false, not, ◌&&◌, ◌||◌, eqb, ltb, min, max, w64, sym, refl, ap, ◌∙◌, inl, inr, arith}
+use Rattle.std.proofs.Common.{◌≡◌, ℕ, zero, suc, ◌-◌, ◌*◌, ◌/◌, ◌%◌, ◌^◌, ◌<◌, ◌≤◌, Bool, true, false, not, ◌&&◌, ◌||◌, eqb, ltb, min, max, w64, sym, refl, ap, ◌∙◌, inl, inr, arith}
 use Rattle.std.specs.Int.{bit_at, bit_not, trailing_zeros}
 use Rattle.std.specs.Int.Bits.{bit_and, bit_or}
-use Rattle.std.proofs.lemmas.Nat.Bits.{bit_at-zero, bit_at-lt, bit_at_above, bit_at_and, bit_at_or, bit_at_not, bit_at_set_same, bit_at_set_other, bit_at_ones, bit_at_ones_above, bit_at-trailing_zeros}
-use Rattle.std.proofs.lemmas.Bool.{both_ways, cases_eq, cases_lt, eq-eqb, ne_eqb, lt-ltb, le-ltb, and_from, and_right}
+use Rattle.std.proofs.lemmas.Nat.Bits.{bit_at-zero, bit_at-suc, bit_at_lowest, bit_at-lt, bit_at_above, bit_at_and, bit_at_or, bit_at_not, bit_at_set_same, bit_at_set_other, bit_at_ones, bit_at_ones_above, bit_at-trailing_zeros}
+use Rattle.std.proofs.lemmas.Bool.{both_ways, cases_eq, cases_lt, eq-eqb, ne_eqb, eqb-true, lt-ltb, le-ltb, and_from, and_right}
 use Rattle.std.proofs.Math.Bool.{and-true}
 use Rattle.types.specs.NodeSets.{has, Lowest}
 use Rattle.types.specs.declared.node_set.NodeSet.{NodeSet}
@@ -124,3 +124,56 @@ all_has n v h = below_has 64 v (omega arith) ∙ elim (cases_lt v 64) [
   | inl l ↦ ap (λ b. b && ltb v 64) (lt-ltb v 64 l ∙ sym (lt-ltb v n (omega arith)))
   | inr l ↦ and_right (ltb v 64) (ltb v 64) (le-ltb v 64 l) ∙ sym (and_right (ltb v n) (ltb v 64) (le-ltb v 64 l))
 ]
+
+-- of a number whose lowest 1 is at the place t: the number before it has none there
+off : (t n : ℕ) → bit_at n t ≡ 1 → ((i : ℕ) → i < t → bit_at n i ≡ 0) → bit_at (n - 1) t ≡ 0
+off zero n h k = omega (arith, h, bit_at_lowest n, bit_at_lowest (n - 1))
+off (suc t) n h k =
+    let half : (n - 1) / 2 ≡ n / 2 - 1 = omega (arith, k 0 (omega arith), bit_at_lowest n) in
+    bit_at-suc (n - 1) t ∙
+    (ap (λ m. bit_at m t) half ∙
+    off t (n / 2) (sym (bit_at-suc n t) ∙ h) (λ i l. sym (bit_at-suc n i) ∙ k (suc i) (omega arith)))
+
+-- and the same bits above it
+same_above : (t n v : ℕ) → bit_at n t ≡ 1 → ((i : ℕ) → i < t → bit_at n i ≡ 0) → t < v → bit_at (n - 1) v ≡ bit_at n v
+same_above t n zero h k l = absurd (omega arith)
+same_above zero n (suc v) h k l =
+    let half : (n - 1) / 2 ≡ n / 2 = omega (arith, h, bit_at_lowest n) in
+    bit_at-suc (n - 1) v ∙ (ap (λ m. bit_at m v) half ∙ sym (bit_at-suc n v))
+same_above (suc t) n (suc v) h k l =
+    let half : (n - 1) / 2 ≡ n / 2 - 1 = omega (arith, k 0 (omega arith), bit_at_lowest n) in
+    bit_at-suc (n - 1) v ∙
+    (ap (λ m. bit_at m v) half ∙
+    (same_above t (n / 2) v (sym (bit_at-suc n t) ∙ h) (λ i l. sym (bit_at-suc n i) ∙ k (suc i) (omega arith)) (omega arith) ∙
+    sym (bit_at-suc n v)))
+
+twice : (a : Bool) → (a && a) ≡ (a && true)
+twice true = refl
+twice false = refl
+
+no_one : (x : ℕ) → x < 2 → eqb x 1 ≡ false → x ≡ 0
+no_one zero l h = refl
+no_one (suc zero) l h = absurd (both_ways (eqb 1 1) h refl)
+no_one (suc (suc x)) l h = absurd (omega arith)
+
+-- what is left without the lowest node
+pub without_lowest : (n u v : ℕ) → Lowest (set_of n) u →
+    has (set_of (bit_and n (n - 1))) v ≡ (has (set_of n) v && not (eqb v u))
+without_lowest n u v h =
+    let one = eqb-true (bit_at n u) 1 h.in_set in
+    let zeros : (i : ℕ) → i < u → bit_at n i ≡ 0 = λ i l. no_one (bit_at n i) (bit_at-lt n i) (h.none_lower i l) in
+    and_has n (n - 1) v ∙ elim (cases_eq v u) [
+      | inl e ↦
+          let none : has (set_of (n - 1)) v ≡ false =
+          ap (has (set_of (n - 1))) e ∙ is_one (bit_at (n - 1) u) 0 (off u n one zeros) in
+          ap (λ b. has (set_of n) v && b) (none ∙ sym (ap not (eq-eqb v u e)))
+      | inr e ↦ elim (cases_lt v u) [
+        | inl l ↦
+            let none = h.none_lower v l in
+            ap (λ b. b && has (set_of (n - 1)) v) none ∙ sym (ap (λ b. b && not (eqb v u)) none)
+        | inr l ↦
+            let same = is_one (bit_at (n - 1) v) (bit_at n v) (same_above u n v one zeros (omega arith)) in
+            ap (λ b. has (set_of n) v && b) same ∙
+            (twice (has (set_of n) v) ∙ sym (ap (λ b. has (set_of n) v && not b) (ne_eqb v u e)))
+      ]
+    ]

@@ -79,7 +79,7 @@ impl NodeSet {
         ensures { TakenFirst self.old self.new result }
     {
         let u = self.first()?;
-        self.remove(u);
+        *self = NodeSet(self.0 & (self.0 - 1));
         Some(u)
     }
 
