@@ -91,8 +91,8 @@ fn the_longer_path(rt: HostRuntime) -> Result<(), Fail> {
     Ok(())
 }
 
-// What the links cost, and what is found in a slice of distances: no next hop where it is too long or too short, or the node
-// is none of the four.
+// What the links cost, and what is found by a slice of distances: no next hop where its length is wrong or there is no
+// such node.
 #[test]
 fn by_what_links_cost(rt: HostRuntime) -> Result<(), Fail> {
     let topology = topology_of(rt.alloc(), RING)?;
