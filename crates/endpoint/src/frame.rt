@@ -24,7 +24,7 @@ pub fn serve(
     ensures value { Serves (serve (model router.old) frame.entry.from frame.entry.message.now)
         (model router.old) (model router.new) out.old.items out.new.items result }
 
-    // A stranger's frame, bytes that aren't read and a dropped packet never want memory.
+    // A stranger's frame, one of an unknown kind, a packet or message that isn't read, and a dropped packet never want memory.
     ensures memory { OnMemory result ((may_come (model router.old) frame.entry.from ≡ true) ×
         WantsMemory (kind_in frame.entry.message.now)
         (model router.old) frame.entry.from frame.entry.message.now (model router.new)) }

@@ -88,14 +88,14 @@ impl Router {
         self.link_cost(link.a, link.b).is_some()
     }
 
-    /// The next hop of any node for d by its list, also where it uses another itself already.
+    /// The next hop of any node for d by its list. The one that it uses itself may be newer: that is `next_hop`.
     pub fn hop_of(&self, d: NodeId, a: NodeId) -> Option<NodeId>
         ensures { result ≡ next_hop (model self.now).links d a }
     {
         self.routes.next_hop(d, a)
     }
 
-    /// Does the path of any node to d by its list use the link?
+    /// Does the path of any node to d by its list use the link? The link may be down, or not in the list.
     pub fn uses(&self, link: LinkId, d: NodeId, a: NodeId) -> bool
         ensures { result ≡ uses (model self.now).links link d a }
     {
@@ -139,7 +139,7 @@ impl Router {
         }
     }
 
-    /// Has it switched for all destinations, once it switches for this one? It asks the same where no failure is known.
+    /// Has it switched for all destinations once it switches for this one? With no failure known it has for none yet.
     pub fn is_last(&self, destination: NodeId) -> bool
         ensures { let s = model self.now in
             result ≡ all_below s.links.n (mark destination (switched_in s.transition)) }

@@ -1,8 +1,8 @@
 -- Rows of 64 costs: what they say of each two nodes, and how links are written into them.
-use Rattle.std.proofs.Common.{◌≡◌, ℕ, zero, suc, ◌+◌, ◌-◌, ◌*◌, ◌<◌, ◌≤◌, true, false, cond, ◌&&◌, eqb, ltb, List, [], ◌∷◌, length, get_or, drop, set, replicate, reverse, sym, ap, ap₂, ◌∙◌, subst, inl, inr, arith, length-set}
+use Rattle.std.proofs.Common.{◌≡◌, ℕ, zero, suc, ◌+◌, ◌-◌, ◌*◌, ◌<◌, ◌≤◌, true, false, cond, ◌&&◌, eqb, ltb, List, [], ◌∷◌, length, get_or, take, drop, set, replicate, reverse, sym, ap, ap₂, ◌∙◌, subst, inl, inr, arith, length-set}
 use mathlib.Core.Path.{fun_ext}
 use Rattle.std.proofs.lemmas.Bool.{ltb-true, ltb-false, lt-ltb, eq-eqb, cases_lt, and_parts, cases_eq, cases_Bool, and_from, or_left, cond-true, cond-false}
-use Rattle.std.proofs.lemmas.List.{get_or-replicate, get_or-set_same, get_or-set_other, drop_all, drop_more, get_or-reverse, get_or_default, length-reverse}
+use Rattle.std.proofs.lemmas.List.{get_or-replicate, get_or-set_same, get_or-set_other, get_or-take, get_or-drop, length-drop, length-take-le, drop_all, drop_more, get_or-reverse, get_or_default, length-reverse}
 use Rattle.types.specs.Link.{ends_of}
 use Rattle.links.specs.Links.{start, rising_from, rising, cost_in, network_of}
 use Rattle.links.proofs.Lawful.{rising_parts, lawful}
@@ -148,3 +148,12 @@ written_more z a rest less row b c p l e w = record {
 
 pub written_all : (z : Network) (a : ℕ) (rest : NodeSet) (row : List ℕ) → ((b : ℕ) → has rest b ≡ false) → Written z a rest row → CostRow z a row
 written_all z a rest row none w = record { size = w.size; each = λ b p. w.done b p (none b) }
+
+-- the rows are parts of it
+pub row_costs : (n : ℕ) (m : List ℕ) (a : ℕ) → n ≤ 64 → a < n → length m ≡ 4096 → CostRow (network_in n m) a (take (a * 64 + n - a * 64) (drop (a * 64) m))
+row_costs n m a few h len =
+    let e : a * 64 + n - a * 64 ≡ n = omega arith in
+    record {
+      size = ap (λ k. length (take k (drop (a * 64) m))) e ∙ length-take-le n (drop (a * 64) m) (omega (arith, length-drop (a * 64) m));
+      each = λ b l. get_or-take (a * 64 + n - a * 64) (drop (a * 64) m) b 0 (omega arith) ∙ (get_or-drop (a * 64) m b 0 ∙ sym (cost_in_lem n m a b h l));
+    }

@@ -3,7 +3,7 @@ use Rattle.std.proofs.Common.{◌≡◌, ℕ, ◌+◌, ◌<◌, ◌≤◌, Bool,
 use Rattle.std.proofs.lemmas.Bool.{both_ways, and_from, and_right, ltb-true, ltb-false, lt-ltb, eq-eqb, ne_eqb, cases_lt, and_parts, cases_eq, cases_Bool, and_cases, cond-true, cond-false, cond_both}
 use Rattle.std.proofs.lemmas.List.{get_or-set_same, get_or-set_other}
 use Rattle.routes.specs.Distances.{decoded, Filled}
-use Rattle.routes.specs.Dijkstra.{relaxed, Relaxes, NoneNearer, Nearest}
+use Rattle.routes.specs.Dijkstra.{relaxed, RelaxesFor, NoneNearer, Nearest}
 use Rattle.routes.specs.Dijkstra.{Partly, Standing}
 use Rattle.types.specs.NodeSets.{has}
 use Rattle.types.specs.declared.node_set.NodeSet.{NodeSet}
@@ -49,6 +49,21 @@ relaxed_is k here there =
       over = λ h. elim (and_cases (ltb 0 k) (ltb (here + k) there) t) [ inl x ↦ absurd (both_ways (ltb 0 k) x (lt-ltb 0 k h)) | inr x ↦ omega (arith, ltb-false (here + k) there x) ];
       one = inl refl;
     })
+
+-- a link by which it is not nearer changes nothing
+not_nearer : (k here there : ℕ) → (0 < k → there ≤ k + here) → relaxed k here there ≡ there
+not_nearer k here there h =
+    let x = relaxed_is k here there in
+    elim x.one [ inl e ↦ e | inr y ↦ omega (arith, x.less, y.1, h y.0) ]
+
+-- a settled node is not nearer by a link from one that has a distance
+link_to_settled : (z : Network) → Lawful z → (d : ℕ) (o : ℕ → Bool) (f : ℕ → ℕ) → Partly z d o f → (u : ℕ) → u < z.n → f u < 4294967295 →
+    (e : ℕ) → e < z.n → o e ≡ false → 0 < z.cost u e → f e ≤ z.cost u e + f u
+unfolding path_cost
+link_to_settled z g d o f h u l s e m q k =
+    let b = g.symmetric u e in
+    let w = h.found u l s in
+    omega (arith, h.right e m q (u ∷ w.nodes) (omega arith, w.path), w.cost)
 
 -- u is settled
 pub record Picks (z : Network) (o : ℕ → Bool) (f : ℕ → ℕ) (u : ℕ) : Type 0 where
@@ -103,11 +118,7 @@ module _ (z : Network) (d : ℕ) (o p : ℕ → Bool) (f g : ℕ → ℕ) (u : �
 
   -- from u to a settled node
   link_back : (e : ℕ) → e < z.n → o e ≡ false → 0 < z.cost u e → f e ≤ z.cost u e + f u
-  unfolding path_cost
-  link_back e l q h =
-      let b = t.lawful.symmetric u e in
-      let w = path_of_u in
-      omega (arith, t.before.right e l q (u ∷ w.nodes) (omega arith, w.path), w.cost)
+  link_back = link_to_settled z t.lawful d o f t.before u t.picks.within t.picks.some
 
   link_of_u : (e : ℕ) → e < z.n → 0 < z.cost u e → g e ≤ z.cost u e + f u
   link_of_u e l h = elim (cases_Bool (p e)) [
@@ -209,9 +220,8 @@ module _ (z : Network) (g : Lawful z) (s : Limited z) (d : ℕ) where
       less_of : Less u (has o) (has less)
       less_of = record { here = gone o less u t; others = λ v ne. same_other o less u t v ne }
 
-      pub stands_more : (to : NodeSet) (new : List ℕ) → ((e : ℕ) → has to e ≡ (ltb 0 (z.cost u e) && has less e)) → Relaxes z u (get_or dist u 0) to dist new → Standing z d less new
-      stands_more to new q r =
-          let c = λ (e : ℕ). relaxed (z.cost u e) (get_or dist u 0) (get_or dist e 0) in
+      pub stands_more : (new : List ℕ) → RelaxesFor z u (get_or dist u 0) less dist new → Standing z d less new
+      stands_more new r =
           record {
             within = λ v h. i.within v (left_in o less u t v h);
             size = r.size ∙ i.size;
@@ -222,17 +232,17 @@ module _ (z : Network) (g : Lawful z) (s : Limited z) (d : ℕ) where
               aim = i.aim;
               picks = picks_of;
               less = less_of;
-              relaxes = λ e h p.
-                  let x = relaxed_is (z.cost u e) (get_or dist u 0) (get_or dist e 0) in
-                  subst (Relaxed (z.cost u e) (get_or dist u 0) (get_or dist e 0)) (sym (r.each e h)) (elim (cases_Bool (has to e)) [
-                    | inl y ↦ subst (Relaxed (z.cost u e) (get_or dist u 0) (get_or dist e 0)) (sym (cond-true (has to e) (c e) (get_or dist e 0) y)) x
-                    | inr y ↦
-                        let none : z.cost u e ≡ 0 = elim (cases_lt 0 (z.cost u e)) [
-                          | inl k ↦ absurd (both_ways (has to e) y (q e ∙ and_from (ltb 0 (z.cost u e)) (has less e) (lt-ltb 0 (z.cost u e) k) p))
-                          | inr k ↦ omega arith
-                        ] in
-                        subst (Relaxed (z.cost u e) (get_or dist u 0) (get_or dist e 0)) (sym (cond-false (has to e) (c e) (get_or dist e 0) y)) (record { less = omega arith; over = λ k. absurd (omega arith); one = inl refl })
-                  ]);
-              kept = λ e h p. r.each e h ∙ cond-false (has to e) (c e) (get_or dist e 0) (q e ∙ and_right (ltb 0 (z.cost u e)) (has less e) p);
+              relaxes = λ e h p. elim (r.each e h) [
+                | inl y ↦
+                    subst (Relaxed (z.cost u e) (get_or dist u 0) (get_or dist e 0)) (sym y) (relaxed_is (z.cost u e) (get_or dist u 0) (get_or dist e 0))
+                | inr y ↦ absurd (both_ways (has less e) y.0 p)
+              ];
+              kept = λ e h p. elim (r.each e h) [ inl y ↦ y ∙ stays e h p | inr y ↦ y.1 ];
             });
           }
+        where
+          stays : (e : ℕ) → e < z.n → has less e ≡ false → relaxed (z.cost u e) (get_or dist u 0) (get_or dist e 0) ≡ get_or dist e 0
+          stays e h p = not_nearer (z.cost u e) (get_or dist u 0) (get_or dist e 0) (λ k. elim (settled_cases u (has o) (has less) less_of e p) [
+            | inl y ↦ let n : z.cost u e ≡ 0 = ap (z.cost u) y ∙ g.loopless u in absurd (omega arith)
+            | inr y ↦ link_to_settled z g d (has o) (λ v. get_or dist v 0) i.part u picks_of.within picks_of.some e h y k
+          ])

@@ -16,6 +16,18 @@ pub record Relaxes (z : Network) (u here : ℕ) (s : NodeSet) (old new : List �
       slice_index new e ≡
       (if has s e then relaxed (z.cost u e) here (slice_index old e) else slice_index old e)
 
+-- so for each node, by a row of what the links cost
+pub record RelaxesRow (row : List ℕ) (here : ℕ) (old new : List ℕ) : Type 0 where
+  pub size : length new ≡ length old
+  pub each : (e : ℕ) → e < length row → slice_index new e ≡ relaxed (slice_index row e) here (slice_index old e)
+
+-- so for the links of u to the nodes of s, and maybe for others
+pub record RelaxesFor (z : Network) (u here : ℕ) (s : NodeSet) (old new : List ℕ) : Type 0 where
+  pub size : length new ≡ length old
+  pub each : (e : ℕ) → e < z.n →
+      (slice_index new e ≡ relaxed (z.cost u e) here (slice_index old e)) ⊎
+      ((has s e ≡ false) × (slice_index new e ≡ slice_index old e))
+
 -- the least over the links of a to the nodes of s, whose distances dist has; 2^32 - 1 where there is none
 pub record LeastOver (z : Network) (a : ℕ) (s : NodeSet) (dist : List ℕ) (c : ℕ) : Type 0 where
   pub top : c ≤ 4294967295

@@ -5,7 +5,7 @@ ghost use Rattle.links.specs.Links.{network_of, rising, IsNodeCount};
 ghost use Rattle.routes.specs.Costs.{network_in, put};
 ghost use Rattle.routes.specs.Neighbours.{LinkedEach};
 
-use crate::table::{CELLS, cell};
+use crate::table::{CELLS, cell, row_of};
 use crate::view::View;
 use links::Topology;
 use types::{Change, Link, MAX_NODES, NodeId, NodeSet};
@@ -31,7 +31,7 @@ impl CostMatrix {
     ghost use Rattle.types.specs.NodeSets.{has};
     ghost use Rattle.links.specs.Links.{IsNodeCount};
     ghost use Rattle.links.specs.Topology.{network};
-    ghost use Rattle.routes.specs.Costs.{link_cost, network_in};
+    ghost use Rattle.routes.specs.Costs.{link_cost, network_in, CostRow};
     ghost use Rattle.routes.specs.Distances.{Filled};
     ghost use Rattle.routes.specs.Matrix.{matrix_network};
 
@@ -125,6 +125,14 @@ impl CostMatrix {
         ensures { result ≡ (matrix_network self.now).cost a b }
     {
         self.costs[cell(a, b)]
+    }
+
+    /// What the links of a node cost, node by node, 0 where there is none.
+    pub(crate) fn row(&self, a: NodeId) -> &[u16]
+        requires { a < (matrix_network self.now).n }
+        ensures { CostRow (matrix_network self.now) a result.now }
+    {
+        &self.costs[row_of(a, self.nodes)]
     }
 
     /// The nodes to which a node has a link.

@@ -1,7 +1,7 @@
 ghost use Rattle.std.specs.Prelude.{◌≡◌, ℕ, ◌<◌, length};
 ghost use Rattle.theory.specs.Network.{joins};
 ghost use Rattle.types.specs.NodeSets.{has};
-ghost use Rattle.routes.specs.Dijkstra.{relaxed, AllBelow, IsNearest};
+ghost use Rattle.routes.specs.Dijkstra.{relaxed, AllBelow, IsNearest, RelaxesRow};
 
 use crate::matrix::CostMatrix;
 use crate::table::{CELLS, NEVER, row_of};
@@ -20,7 +20,7 @@ impl<'a> View<'a> {
     ghost use Rattle.types.specs.NodeSets.{has};
     ghost use Rattle.links.specs.Links.{IsNodeCount};
     ghost use Rattle.routes.specs.Costs.{CostRow};
-    ghost use Rattle.routes.specs.Dijkstra.{AllBelow, LeastOver, Relaxes, Standing};
+    ghost use Rattle.routes.specs.Dijkstra.{AllBelow, LeastOver, Relaxes, RelaxesFor, Standing};
     ghost use Rattle.routes.specs.Distances.{DistanceRows, Filled};
     ghost use Rattle.routes.specs.Matrix.{matrix_network};
     ghost use Rattle.routes.specs.NextHops.{HopBy, HopRows, HopsBy};
@@ -135,6 +135,22 @@ impl<'a> View<'a> {
         let mut unsettled = unsettled;
         while let Some(u) = nearest(unsettled, dist) {
             unsettled.remove(u);
+            self.relax_from(u, unsettled, dist);
+        }
+    }
+
+    /// Relaxes the links of a node that is settled, to the unsettled ones at least. A row at once is the quickest, since no
+    /// turn waits for the one before; it takes in links to settled nodes, which are no nearer by them.
+    fn relax_from(&self, u: NodeId, unsettled: NodeSet, dist: &mut [u32])
+        requires node { u < (view_network self.now).n }
+        requires size { length dist.old ≡ (view_network self.now).n }
+        ensures { let here = slice_index dist.old u in
+            RelaxesFor (view_network self.now) u here unsettled dist.old dist.new }
+    {
+        if self.lost(u).is_empty() {
+            let here = dist[u.index()];
+            relax_row(self.costs.row(u), here, dist);
+        } else {
             self.relax(u, self.neighbours(u).and(unsettled), dist);
         }
     }
@@ -218,17 +234,27 @@ fn nearest(nodes: NodeSet, dist: &[u32]) -> Option<NodeId>
     requires { AllBelow (length dist.now) nodes }
     ensures { IsNearest nodes dist.now result }
 {
-    let mut best = None;
+    let mut best = NodeId(0);
     let mut least = NEVER;
     let mut rest = nodes;
     while let Some(u) = rest.take_first() {
         let there = dist[u.index()];
         if there < least {
-            best = Some(u);
+            best = u;
             least = there;
         }
     }
-    best
+    if least == NEVER { None } else { Some(best) }
+}
+
+/// Relaxes the links of a node at the distance here, by a row of what they cost.
+fn relax_row(row: &[u16], here: u32, dist: &mut [u32])
+    requires { length row.now ≡ length dist.old }
+    ensures { RelaxesRow row.now here dist.old dist.new }
+{
+    for (e, cost) in row.iter().enumerate() {
+        dist[e] = by_link(*cost, here, dist[e]);
+    }
 }
 
 /// The lesser of the distance there and that by a link, if there is one.

@@ -1,5 +1,4 @@
-use Rattle.std.proofs.Common.{◌∙◌, ap, ◌&&◌, arith}
-use Rattle.types.specs.NodeSets.{has}
+use Rattle.std.proofs.Common.{◌∙◌, arith}
 use Rattle.routes.specs.View.{view_network}
 use Rattle.routes.proofs.Changes.{view_lawful, view_limited}
 use Rattle.routes.proofs.Settled.{stands_more, stands_all}
@@ -18,8 +17,8 @@ loop-u-preserved c =
     let i = c.loop-u.invariant in
     let n = c.in-Some.ensures in (
       λ v h. i.0 v (left_in c.loop-u.unsettled c.remove.new.self c.in-Some.u c.remove.ensures v h),
-      c.relax.ensures.size ∙ i.1,
-      λ d h. stands_more z (view_lawful s) (view_limited s) d c.loop-u.unsettled c.loop-u.dist (i.2 d h) c.in-Some.u n c.remove.new.self c.remove.ensures c.and.result c.relax.new.dist (λ e. c.and.ensures e ∙ ap (λ b. b && has c.remove.new.self e) (c.neighbours.ensures e)) c.relax.ensures,
+      c.relax_from.ensures.size ∙ i.1,
+      λ d h. stands_more z (view_lawful s) (view_limited s) d c.loop-u.unsettled c.loop-u.dist (i.2 d h) c.in-Some.u n c.remove.new.self c.remove.ensures c.relax_from.new.dist c.relax_from.ensures,
     )
 
 pub returns : goal.returns
