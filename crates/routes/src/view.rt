@@ -7,6 +7,9 @@ use crate::matrix::CostMatrix;
 use crate::table::{CELLS, NEVER, row_of};
 use types::{Change, LinkId, NodeId, NodeSet};
 
+// Up to how many links are relaxed one by one.
+const FEW: usize = 4;
+
 /// A network as a change leaves it: the costs stay where they are. What changes is looked up in `lost` alone.
 #[derive(Clone, Copy)]
 pub(crate) struct View<'a> {
@@ -139,19 +142,20 @@ impl<'a> View<'a> {
         }
     }
 
-    /// Relaxes the links of a node that is settled, to the unsettled ones at least. A row at once is the quickest, since no
-    /// turn waits for the one before; it takes in links to settled nodes, which are no nearer by them.
+    /// Relaxes the links of a node that is settled, to the unsettled ones at least. Where they are many a row at once is
+    /// quicker, since no turn waits for the one before; it takes in links to settled nodes, which are no nearer by them.
     fn relax_from(&self, u: NodeId, unsettled: NodeSet, dist: &mut [u32])
         requires node { u < (view_network self.now).n }
         requires size { length dist.old ≡ (view_network self.now).n }
         ensures { let here = slice_index dist.old u in
             RelaxesFor (view_network self.now) u here unsettled dist.old dist.new }
     {
-        if self.lost(u).is_empty() {
+        let others = self.neighbours(u).and(unsettled);
+        if self.lost(u).is_empty() && others.iter().nth(FEW).is_some() {
             let here = dist[u.index()];
             relax_row(self.costs.row(u), here, dist);
         } else {
-            self.relax(u, self.neighbours(u).and(unsettled), dist);
+            self.relax(u, others, dist);
         }
     }
 
