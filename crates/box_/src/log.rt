@@ -38,7 +38,7 @@ impl Log {
         Ok(write!(self.lines, "frame {k}: fault {number}: {error}\n")?)
     }
 
-    // Writes the lines in one write: in pieces, lines of several routers' logs in one file would mix. Where they can't be
+    // Writes the lines, in one write, so that the lines of several routers' logs in one file stay whole. Where they can't be
     // written they are lost: the router goes on, since its neighbours wait for what it hands on, and nobody for its log.
     pub fn write(&mut self, errors: &impl Print) {
         match errors.write_all(self.lines.as_bytes()) {
