@@ -38,8 +38,9 @@ impl Log {
         Ok(write!(self.lines, "frame {k}: fault {number}: {error}\n")?)
     }
 
-    // Writes the lines, in one write, so that the lines of several routers' logs in one file stay whole. Where they can't be
-    // written they are lost: the router goes on, since its neighbours wait for what it hands on, and nobody for its log.
+    // Writes the lines in one piece: between pieces, another router that logs into the same file could cut a line in two.
+    // Where they can't be written they are lost: the router goes on, since its neighbours wait for what it hands on, and
+    // nobody for its log.
     pub fn write(&mut self, errors: &impl Print) {
         match errors.write_all(self.lines.as_bytes()) {
             Ok(()) | Err(_) => {}
